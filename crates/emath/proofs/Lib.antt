@@ -1,0 +1,12 @@
+pub mod Tests
+pub mod Whole
+pub mod Exact
+pub mod Values
+pub mod NearUp
+pub mod Rounding
+pub mod NearestWhole
+pub mod Order
+pub mod RoundOrder
+pub mod MinMax
+pub mod Refusals
+pub mod Casts

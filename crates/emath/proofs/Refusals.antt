@@ -1,0 +1,80 @@
+-- Laws of the refusals: what is finite, what a fault of 0 says of the parts, and that edges within the limit have none. Assumes nothing.
+use mathlib.Core.Path.{_≡_, refl, sym, _∙_}
+use Prim.Native.Nat.{ℕ, _*_, _<_, zero, suc}
+use native.Mathlib.Nat.{sub-self, mul-pos}
+use native.Mathlib.Omega.{arith}
+use mathlib.Core.Bool.{Bool, true, false, cond, not, _&&_, true≢false}
+use lib.Dec.{T, eqb, ltb, eqb→eq}
+use lib.IntN.{pos}
+use lib.Ieee.{Float, nan, inf, fin, binary32, ofBits, up, down, round, sum, add, sub, neg, eq, lt, le}
+use lib.Ieee.Fits.{down-pos}
+use lib.Ieee.Scale.{round-same}
+use Rattle.emath.specs.Rectangles.{zeroF}
+use Rattle.emath.specs.Domain.{finite, within, edgesOf}
+use Rattle.emath.specs.Refusals.{when, lesser, least, orElse, edgesFault}
+use Rattle.emath.proofs.Tests.{bools, not-lt}
+use Rattle.emath.specs.declared.Rect.{Rect}
+
+nought : (s : Bool) (c : ℕ) → 0 < c → round binary32 (s && false) 0 c ≡ fin false 0 (pos 0)
+nought false c h = round-same binary32 false 0 c 0 1 h (omega arith) (omega arith) ∙ (unfold round in refl)
+nought true c h = round-same binary32 false 0 c 0 1 h (omega arith) (omega arith) ∙ (unfold round in refl)
+
+lost : (s : Bool) (a c : ℕ) → 0 < c → sum binary32 s a (not s) a c ≡ fin false 0 (pos 0)
+unfolding sum
+lost false a c h = rw (not-lt a a (omega arith), sub-self a) (nought false c h)
+lost true a c h = rw (not-lt a a (omega arith), sub-self a) (nought true c h)
+
+-- x - x is 0 for a finite x, and a NaN for any other
+pub finite-is : (x : Float) → eq (sub binary32 x x) zeroF ≡ finite x
+unfolding eq sub add neg finite ofBits
+finite-is nan = refl
+finite-is (inf true) = refl
+finite-is (inf false) = refl
+finite-is (fin s m e) = rw (lost s (m * up e * down e) (down e * down e) (mul-pos (down-pos e) (down-pos e)))
+
+-- ---- no number: none of its parts has one
+some : (n : ℕ) → eqb (suc n) 0 ≡ false
+some n = bools (eqb (suc n) 0) false (λ (t : T (eqb (suc n) 0)). absurd (omega (arith, eqb→eq (suc n) 0 t))) (λ (t : ⊥). absurd t)
+
+pick-some : (t : Bool) (a b : ℕ) → cond t (suc a) (suc b) ≡ 0 → ⊥
+pick-some true a b h = omega arith
+pick-some false a b h = omega arith
+
+pub lesser-none : (a b : ℕ) → lesser a b ≡ 0 → (a ≡ 0) × (b ≡ 0)
+unfolding lesser
+lesser-none zero b h = (refl, h)
+lesser-none (suc a) zero h = absurd (let z : suc a ≡ 0 = rw (some a) at h in omega arith)
+lesser-none (suc a) (suc b) h = absurd (pick-some (ltb (suc a) (suc b)) a b (rw (some a, some b) at h))
+
+pub or-none : (n m : ℕ) → orElse n m ≡ 0 → (n ≡ 0) × (m ≡ 0)
+unfolding orElse
+or-none zero m h = (refl, h)
+or-none (suc n) m h = absurd (let z : suc n ≡ 0 = rw (some n) at h in omega arith)
+
+pub when-none : (b : Bool) (n : ℕ) → when (not b) (suc n) ≡ 0 → b ≡ true
+when-none true n h = refl
+when-none false n h = absurd (let z : suc n ≡ 0 = h in omega arith)
+
+pub edges-fit : (r : Rect) → edgesFault r ≡ 0 → edgesOf within r ≡ true
+unfolding edgesFault least
+edges-fit r h = when-none (edgesOf within r) 4 (lesser-none (when (not (edgesOf finite r)) 4) (when (not (edgesOf within r)) 5) h .1)
+
+-- ---- the quick way: edges that are within the limit have no fault
+both : (a b : Bool) → a && b ≡ true → (a ≡ true) × (b ≡ true)
+both true b h = (refl, h)
+both false b h = absurd (true≢false (sym h))
+
+within-finite : (x : Float) → within x ≡ true → finite x ≡ true
+unfolding within finite le lt eq neg ofBits
+within-finite nan h = absurd (true≢false (sym h))
+within-finite (inf true) h = absurd (true≢false (sym h))
+within-finite (inf false) h = absurd (true≢false (sym h))
+within-finite (fin s m e) h = refl
+
+pub no-fault : (r : Rect) → edgesOf within r ≡ true → 0 ≡ edgesFault r
+unfolding edgesFault least lesser edgesOf
+no-fault r h =
+    let a = both (within (r .left)) (within (r .top) && (within (r .right) && within (r .bottom))) h in
+    let b = both (within (r .top)) (within (r .right) && within (r .bottom)) (a .1) in
+    let d = both (within (r .right)) (within (r .bottom)) (b .1) in
+    rw (a .0, b .0, d .0, d .1, within-finite (r .left) (a .0), within-finite (r .top) (b .0), within-finite (r .right) (d .0), within-finite (r .bottom) (d .1))

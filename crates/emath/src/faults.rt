@@ -1,0 +1,93 @@
+// The numbers of document 01's "Turned back" for this crate's types. 0: none.
+ghost use mathlib.Core.Path.{_≡_};
+ghost use Rattle.emath.specs.Refusals.{when, lesser, orElse, lengthFault, extentFault, pairFault, sizeFault, edgesFault, rectFault, outside, frameFault};
+use crate::Rect;
+use crate::Vec2;
+use crate::domain::both_finite;
+use crate::domain::both_within;
+use crate::domain::is_finite;
+use crate::domain::is_within;
+
+pub fn number_when(b: bool, n: u8) -> u8
+    ensures { λ r. ⌜ r ≡ when b n ⌝ }
+{
+    if b { n } else { 0 }
+}
+
+pub fn lesser_number(a: u8, b: u8) -> u8
+    ensures { λ r. ⌜ r ≡ lesser a b ⌝ }
+{
+    if a == 0 {
+        return b;
+    }
+    if b == 0 {
+        return a;
+    }
+    if a < b { a } else { b }
+}
+
+pub fn or_else(n: u8, m: u8) -> u8
+    ensures { λ r. ⌜ r ≡ orElse n m ⌝ }
+{
+    if n == 0 { m } else { n }
+}
+
+pub fn length_fault(x: f32) -> u8
+    ensures { λ n. ⌜ n ≡ lengthFault x ⌝ }
+{
+    lesser_number(number_when(!is_finite(x), 4), number_when(!is_within(x), 5))
+}
+
+// Of a maximum width or height, say, which is not negative.
+pub fn extent_fault(x: f32) -> u8
+    ensures { λ n. ⌜ n ≡ extentFault x ⌝ }
+{
+    lesser_number(length_fault(x), number_when(x < 0.0, 6))
+}
+
+pub fn pair_fault(x: f32, y: f32) -> u8
+    ensures { λ n. ⌜ n ≡ pairFault x y ⌝ }
+{
+    lesser_number(
+        number_when(!both_finite(x, y), 4),
+        number_when(!both_within(x, y), 5),
+    )
+}
+
+pub fn size_fault(v: Vec2) -> u8
+    ensures { λ n. ⌜ n ≡ sizeFault v ⌝ }
+{
+    lesser_number(pair_fault(v.x, v.y), number_when(v.is_negative(), 6))
+}
+
+// Edges within the limit are finite: most calls end at the first test.
+pub fn edges_fault(r: Rect) -> u8
+    ensures { λ n. ⌜ n ≡ edgesFault r ⌝ }
+{
+    if r.is_within() {
+        return 0;
+    }
+    lesser_number(number_when(!r.is_finite(), 4), 5)
+}
+
+pub fn rect_fault(r: Rect) -> u8
+    ensures { λ n. ⌜ n ≡ rectFault r ⌝ }
+{
+    lesser_number(edges_fault(r), number_when(r.is_inside_out(), 6))
+}
+
+// The number of an answer or a new state that has the fault n.
+pub fn outside_domain(n: u8) -> u8
+    ensures { λ r. ⌜ r ≡ outside n ⌝ }
+{
+    if n == 0 { 0 } else { 9 }
+}
+
+pub fn frame_fault(r: Rect) -> u8
+    ensures { λ n. ⌜ n ≡ frameFault r ⌝ }
+{
+    lesser_number(
+        outside_domain(edges_fault(r)),
+        number_when(r.is_inside_out(), 10),
+    )
+}

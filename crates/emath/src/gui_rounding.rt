@@ -1,0 +1,66 @@
+// Document 01's "round_ui", worked out here and not by a library.
+ghost use mathlib.Core.Path.{_≡_};
+ghost use mathlib.Core.Bool.{true, false};
+ghost use lib.Dec.{T};
+ghost use lib.IntN.{pos};
+ghost use lib.Ieee.{lt, fin};
+ghost use Rattle.emath.specs.Rectangles.{roundF, roundBy, roundUi, roundRect};
+use crate::Rect;
+use crate::TICKS_PER_POINT;
+
+// The nearest whole number of a y above 0 and below 2^23. Twice y is exact, where y + 0.5 would round: 0.49999997 to 1.
+fn near(y: f32) -> f32
+    requires { ⌜ T (lt (fin false 0 (pos 0)) y) ⌝ }
+    requires { ⌜ T (lt y (fin false 1 (pos 23))) ⌝ }
+    ensures { λ r. ⌜ r ≡ roundF y ⌝ }
+{
+    let n = (std::num::truncating_f32_to_u64(y + y) + 1) / 2;
+    n as f32
+}
+
+// The nearest whole number, halves away from zero. From 2^23 on every f32 is whole.
+pub fn round(y: f32) -> f32
+    ensures { λ r. ⌜ r ≡ roundF y ⌝ }
+{
+    if y < 8388608.0 {
+        if -8388608.0 < y {
+            if 0.0 < y {
+                near(y)
+            } else if y < 0.0 {
+                0.0 - near(-y)
+            } else {
+                0.0
+            }
+        } else {
+            y
+        }
+    } else {
+        y
+    }
+}
+
+// To whole steps, of which a point has `per`.
+pub fn round_by(per: f32, x: f32) -> f32
+    ensures { λ r. ⌜ r ≡ roundBy per x ⌝ }
+{
+    round(x * per) / per
+}
+
+pub fn round_ui(x: f32) -> f32
+    ensures { λ r. ⌜ r ≡ roundUi 5 x ⌝ }
+{
+    round_by(TICKS_PER_POINT, x)
+}
+
+impl Rect {
+    pub fn round_ui(self) -> Rect
+        ensures { λ r. ⌜ r ≡ roundRect 5 self ⌝ }
+    {
+        Rect {
+            left: round_ui(self.left),
+            top: round_ui(self.top),
+            right: round_ui(self.right),
+            bottom: round_ui(self.bottom),
+        }
+    }
+}

@@ -1,0 +1,52 @@
+// The arithmetic leaf: document 01's rectangles, by value, and the tests and numbers of its domain.
+// Names are those of egui's crate emath.
+mod aligning;
+pub mod domain;
+pub mod faults;
+pub mod gui_rounding;
+pub mod num;
+mod rects;
+
+pub struct Vec2 {
+    pub x: f32,
+    pub y: f32,
+}
+
+pub struct Pos2 {
+    pub x: f32,
+    pub y: f32,
+}
+
+// y grows downward.
+pub struct Rect {
+    pub left: f32,
+    pub top: f32,
+    pub right: f32,
+    pub bottom: f32,
+}
+
+// One axis of a rectangle.
+pub struct Rangef {
+    pub min: f32,
+    pub max: f32,
+}
+
+pub enum Align {
+    Min,
+    Center,
+    Max,
+}
+
+// Across, and down.
+pub struct Align2 {
+    pub x: Align,
+    pub y: Align,
+}
+
+// Document 01's tick is 1/32 point.
+pub const TICKS_PER_POINT: f32 = 32.0;
+
+pub const TICK: f32 = 1.0 / TICKS_PER_POINT;
+
+// No length is of greater magnitude, in points.
+pub const LIMIT: f32 = 65536.0;

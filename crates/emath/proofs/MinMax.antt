@@ -11,6 +11,7 @@ use lib.Ieee.Fits.{and-l, and-r}
 use lib.Ieee.Compare.{differs-from-itself, nan-differs}
 use Rattle.emath.specs.Rectangles.{minF, maxF}
 use Rattle.emath.proofs.Tests.{not-lt, T-true}
+use Rattle.emath.proofs.OrderLaws.{lt-nan}
 
 one-of : (t u : Bool) (a b : Float) → (cond t b (cond u b a) ≡ a) ⊎ (cond t b (cond u b a) ≡ b)
 one-of true u a b = inr refl
@@ -26,12 +27,6 @@ unfolding maxF
 max-one-of a b = one-of (lt a b) (ne a a) a b
 
 -- ---- a NaN gives the other
-lt-nan : (b : Float) → lt b nan ≡ false
-unfolding lt
-lt-nan nan = refl
-lt-nan (inf s) = refl
-lt-nan (fin s m e) = refl
-
 -- what is unlike itself is a NaN
 kept : (a : Float) → cond (ne a a) nan a ≡ a
 kept a = go (ne a a) (differs-from-itself a)
@@ -42,14 +37,11 @@ kept a = go (ne a a) (differs-from-itself a)
 
 pub min-nan-first : (b : Float) → minF nan b ≡ b
 unfolding minF
-min-nan-first b = rw (lt-nan b, nan-differs)
+min-nan-first b = rw (lt-nan b .1, nan-differs)
 
 pub max-nan-first : (b : Float) → maxF nan b ≡ b
 unfolding maxF
-max-nan-first b = rw (nan-lt b, nan-differs)
-  where
-    nan-lt : (b : Float) → lt nan b ≡ false
-    nan-lt b = unfold lt in refl
+max-nan-first b = rw (lt-nan b .0, nan-differs)
 
 pub min-nan-second : (a : Float) → minF a nan ≡ a
 unfolding minF lt
@@ -57,7 +49,7 @@ min-nan-second a = kept a
 
 pub max-nan-second : (a : Float) → maxF a nan ≡ a
 unfolding maxF
-max-nan-second a = rw (lt-nan a) (kept a)
+max-nan-second a = rw (lt-nan a .1) (kept a)
 
 -- ---- the lesser, the greater
 pub min-less : (a b : Float) → T (lt b a) → minF a b ≡ b

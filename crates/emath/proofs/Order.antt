@@ -1,23 +1,21 @@
--- The order of floats: of what `round` gives and of `val` for any whole numbers, of opposites, and its transitivity. Assumes nothing.
+-- What `round` gives keeps the order of the fractions, and so does `val` for any two whole numbers; opposites turn it. Assumes nothing.
 use mathlib.Core.Path.{_≡_, refl, sym, ap, _∙_, subst}
 use mathlib.Core.Logic.{inl, inr}
 use Prim.Native.Nat.{ℕ, zero, suc, _+_, _-_, _*_, _/_, _%_, _^_, _≤_, _<_, compare}
-use native.Mathlib.Nat.{add-comm, eq-or-lt-of-le, eq-of-mul-eq-mul-right, mul-le-mul-right, eq-zero-or-pos}
+use native.Mathlib.Nat.{add-comm, eq-of-mul-eq-mul-right, mul-le-mul-right, eq-zero-or-pos}
 use native.Mathlib.Omega.{arith}
 use mathlib.Core.Bool.{Bool, true, false, not, cond, _&&_, _||_, Bool·beq}
 use lib.Dec.{T, ltb, eqb, lt→ltb, ltb→lt, leb→le, eqb→eq}
-use lib.IntN.{ℤ, pos, negsuc, natAbs, _+ℤ_}
+use lib.IntN.{ℤ, pos, negsuc, natAbs}
 use lib.Signed.{leZ}
 use lib.Pow.{pow-pos}
 use lib.Ieee.{Float, nan, inf, fin, Format, prec, emax, low, size, nearest, odd, units, binary32, up, down, round, neg, lt, le, eq, below, level}
-use lib.Ieee.Fits.{down-pos, and-i, and-l, and-r, eq→eqb}
+use lib.Ieee.Fits.{and-i, and-l, and-r, eq→eqb}
 use lib.Ieee.Order.{round-mono}
-use lib.Ieee.Positive.{through}
 use lib.Ieee.Scale.{round-same}
 use Rattle.emath.specs.Steps.{sgn, val}
-use Rattle.emath.proofs.Tests.{or-split, or-l, or-r, bools}
-use Rattle.emath.proofs.Whole.{more, less, Within, sum, leZ→, nleZ→, →leZ}
-use Rattle.emath.proofs.Values.{val-le, neg-round}
+use Rattle.emath.proofs.Tests.{or-split, or-l, or-r}
+use Rattle.emath.proofs.Values.{neg-round}
 
 -- ---- the order of two finite values over one denominator, by their signs
 abbrev pub Before : Bool → ℕ → Bool → ℕ → Type 0
@@ -63,7 +61,7 @@ unfolding round
 sign-round f s n d = sign-units f s (nearest (n * 2 ^ low f / (d * 2 ^ (size (n * 2 ^ low f / d) - prec f))) (compare (n * 2 ^ low f % (d * 2 ^ (size (n * 2 ^ low f / d) - prec f)) * 2) (d * 2 ^ (size (n * 2 ^ low f / d) - prec f)))) (size (n * 2 ^ low f / d) - prec f)
 
 -- ---- a value that is not above zero, and one that is not below
-apart : (X Y : ℕ) → T (ltb 0 (X + Y) || (eqb X Y && (false || eqb X 0)))
+pub apart : (X Y : ℕ) → T (ltb 0 (X + Y) || (eqb X Y && (false || eqb X 0)))
 apart X Y = elim (eq-zero-or-pos (X + Y)) [
   | inl z ↦ let x : X ≡ 0 = omega arith in let y : Y ≡ 0 = omega arith in rw (x, y) tt
   | inr p ↦ or-l (ltb 0 (X + Y)) (eqb X Y && (false || eqb X 0)) (lt→ltb 0 (X + Y) p)
@@ -130,7 +128,7 @@ pub factor-zero : (m d : ℕ) → 0 < d → m * d ≡ 0 → m ≡ 0
 factor-zero m d D h = eq-of-mul-eq-mul-right d D m 0 (omega arith)
 
 -- ---- what `round` gives keeps the order of the fractions
-zero-round : (s : Bool) (c : ℕ) → 0 < c → round binary32 s 0 c ≡ fin s 0 (pos 0)
+pub zero-round : (s : Bool) (c : ℕ) → 0 < c → round binary32 s 0 c ≡ fin s 0 (pos 0)
 zero-round s c C = round-same binary32 s 0 c 0 1 C (omega arith) (omega arith) ∙ (unfold round in refl)
 
 zeros-le : T (le (fin false 0 (pos 0)) (fin true 0 (pos 0)))
@@ -154,93 +152,3 @@ leZ-before (negsuc a) (negsuc b) h = omega (arith, leb→le b a h)
 pub val-mono : (k : ℕ) (a b : ℤ) → T (leZ a b) → T (le (val k a) (val k b))
 unfolding val
 val-mono k a b h = round-le (sgn a) (sgn b) (natAbs a) (2 ^ k) (natAbs b) (2 ^ k) (pow-pos k) (pow-pos k) (before-times (sgn a) (natAbs a) (sgn b) (natAbs b) (2 ^ k) (leZ-before a b h))
-
--- ---- the order of floats is transitive
-after : (s : Bool) (X : ℕ) (t : Bool) (Y : ℕ) → Before s X t Y → T (below s X t Y || level s X t Y)
-after false X false Y h = elim (eq-or-lt-of-le h) [ inl u ↦ or-r (ltb X Y) (eqb X Y && true) (and-i (eqb X Y) true (eq→eqb u) tt) | inr u ↦ or-l (ltb X Y) (eqb X Y && true) (lt→ltb X Y u) ]
-after false X true Y h = let e : X ≡ Y = h .0 ∙ sym (h .1) in and-i (eqb X Y) (eqb X 0) (eq→eqb e) (eq→eqb (h .0))
-after true X false Y h = apart X Y
-after true X true Y h = elim (eq-or-lt-of-le h) [ inl u ↦ or-r (ltb Y X) (eqb X Y && true) (and-i (eqb X Y) true (eq→eqb (sym u)) tt) | inr u ↦ or-l (ltb Y X) (eqb X Y && true) (lt→ltb Y X u) ]
-
-factor-zero-le : (m n d e : ℕ) → 0 < d → n ≡ 0 → m * d ≤ n * e → m ≡ 0
-factor-zero-le m n d e D z h = let k : m * d ≤ 0 * e = rw z at h in factor-zero m d D (omega arith)
-
-trans : (s t u : Bool) (M a N b P c : ℕ) → 0 < a → 0 < b → 0 < c → Before s (M * b) t (N * a) → Before t (N * c) u (P * b) → Before s (M * c) u (P * a)
-trans false false false M a N b P c A B C h k = through M N P a b c B h k
-trans false false true M a N b P c A B C h k =
-    let n : N ≡ 0 = factor-zero N c C (k .0) in
-    let p : P ≡ 0 = factor-zero P b B (k .1) in
-    let m : M ≡ 0 = factor-zero-le M N b a B n h in
-    (rw m (omega arith), rw p (omega arith))
-trans false true false M a N b P c A B C h k = let m : M ≡ 0 = factor-zero M b B (h .0) in rw m (omega arith)
-trans false true true M a N b P c A B C h k =
-    let m : M ≡ 0 = factor-zero M b B (h .0) in
-    let n : N ≡ 0 = factor-zero N a A (h .1) in
-    let p : P ≡ 0 = factor-zero-le P N b c B n k in
-    (rw m (omega arith), rw p (omega arith))
-trans true false false M a N b P c A B C h k = tt
-trans true false true M a N b P c A B C h k = let p : P ≡ 0 = factor-zero P b B (k .1) in rw p (omega arith)
-trans true true false M a N b P c A B C h k = tt
-trans true true true M a N b P c A B C h k = through P N M c b a B k h
-
-yes-s : (s : Bool) → T (s || false) → s ≡ true
-yes-s true h = refl
-yes-s false h = absurd h
-
-top-inf : (u : Bool) → T ((true && not u) || Bool·beq true u)
-top-inf true = tt
-top-inf false = tt
-
-inf3 : (s t u : Bool) → T ((s && not t) || Bool·beq s t) → T ((t && not u) || Bool·beq t u) → T ((s && not u) || Bool·beq s u)
-inf3 true t u h k = top-inf u
-inf3 false true u h k = absurd h
-inf3 false false u h k = k
-
-inf2 : (s t : Bool) → T ((s && not t) || Bool·beq s t) → T (t || false) → T (s || false)
-inf2 true t h k = tt
-inf2 false true h k = absurd h
-inf2 false false h k = k
-
-low2 : (t u : Bool) → T (not t || false) → T ((t && not u) || Bool·beq t u) → T (not u || false)
-low2 true u h k = absurd h
-low2 false true h k = absurd k
-low2 false false h k = tt
-
-clash2 : (t : Bool) → T (not t || false) → T (t || false) → ⊥
-clash2 true h k = h
-clash2 false h k = k
-
-pub le-trans : (x y z : Float) → T (le x y) → T (le y z) → T (le x z)
-unfolding le lt eq
-le-trans nan y z h k = absurd h
-le-trans (inf s) nan z h k = absurd h
-le-trans (inf s) (inf t) nan h k = absurd k
-le-trans (inf s) (inf t) (inf u) h k = inf3 s t u h k
-le-trans (inf s) (inf t) (fin u p g) h k = inf2 s t h k
-le-trans (inf s) (fin t n d) nan h k = absurd k
-le-trans (inf s) (fin t n d) (inf u) h k = rw (yes-s s h) (top-inf u)
-le-trans (inf s) (fin t n d) (fin u p g) h k = h
-le-trans (fin s m e) nan z h k = absurd h
-le-trans (fin s m e) (inf t) nan h k = absurd k
-le-trans (fin s m e) (inf t) (inf u) h k = low2 t u h k
-le-trans (fin s m e) (inf t) (fin u p g) h k = absurd (clash2 t h k)
-le-trans (fin s m e) (fin t n d) nan h k = absurd k
-le-trans (fin s m e) (fin t n d) (inf u) h k = k
-le-trans (fin s m e) (fin t n d) (fin u p g) h k =
-    after s (m * up e * down g) u (p * up g * down e)
-    (trans s t u (m * up e) (down e) (n * up d) (down d) (p * up g) (down g) (down-pos e) (down-pos d) (down-pos g)
-    (before s (m * up e * down d) t (n * up d * down e) h) (before t (n * up d * down g) u (p * up g * down d) k))
-
--- ---- the order against a number below 2 ^ 24, of any number: what a bound's test says even where the tested value was rounded
-pub val-le-any : (k : ℕ) → k ≤ 149 → (a b : ℤ) → Within 16777215 b → le (val k a) (val k b) ≡ leZ a b
-val-le-any k l a b B = bools (le (val k a) (val k b)) (leZ a b) (λ (t : T (le (val k a) (val k b))). go t (leZ a b) (nleZ→ a b)) (val-mono k a b)
-  where
-    go : T (le (val k a) (val k b)) → (c : Bool) → (T (not c) → more b + less a < more a + less b) → T c
-    go t true f = tt
-    go t false f =
-        let h : more b + less a < more a + less b = f tt in
-        let n = b +ℤ pos 1 in
-        let up1 : T (leZ n a) = →leZ n a (omega (arith, sum b (pos 1))) in
-        let back : T (le (val k n) (val k b)) = le-trans (val k n) (val k a) (val k b) (val-mono k n a up1) t in
-        let no : T (leZ n b) = rw (val-le k l n b (omega (arith, sum b (pos 1))) (omega arith)) at back in
-        absurd (omega (arith, leZ→ n b no, sum b (pos 1)))

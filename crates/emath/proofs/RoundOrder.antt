@@ -1,20 +1,24 @@
 -- Rounding keeps the order: for every step, whatever two floats are rounded. So it turns no rectangle inside out. Assumes nothing.
-use mathlib.Core.Path.{_≡_, refl, ap}
+use mathlib.Core.Path.{_≡_, refl, ap, _∙_}
 use Prim.Native.Nat.{ℕ, zero, suc, _*_, _^_, _<_}
 use native.Mathlib.Nat.{mul-pos}
 use native.Mathlib.Omega.{arith}
-use mathlib.Core.Bool.{Bool, true, false, not, _||_}
+use mathlib.Core.Bool.{Bool, true, false, not, _||_, true≢false}
 use lib.Dec.{T, le→leb}
 use lib.IntN.{ℤ, natAbs}
 use lib.Signed.{leZ}
 use lib.Pow.{pow-pos}
 use lib.Ieee.{Float, nan, inf, fin, binary32, up, down, round, lt, le, eq, mul, div, unlike}
 use lib.Ieee.Fits.{down-pos}
-use Rattle.emath.specs.Rectangles.{nearUp, roundF, roundBy, roundUi}
+use mathlib.Core.Logic.{_⊎_, inl, inr}
+use Rattle.emath.specs.Rectangles.{nearUp, roundF, roundBy, roundUi, roundRect}
+use Rattle.emath.specs.Domain.{insideOut}
 use Rattle.emath.specs.Steps.{two, sgn, signed, val}
+use Rattle.emath.proofs.Order.{Before, before, before-times, sign-round, factor-zero, round-le, val-mono}
+use Rattle.emath.proofs.OrderLaws.{Number, number, nan-or-number, lt-nan, le-not-lt, not-lt-le}
 use Rattle.emath.proofs.NearUp.{nearUp-le, near-mono}
 use Rattle.emath.proofs.Rounding.{sign-val}
-use Rattle.emath.proofs.Order.{Before, before, before-times, Sign, sign-round, factor-zero, round-le, val-mono}
+use Rattle.emath.specs.declared.Rect.{Rect}
 
 signed-le : (s t : Bool) (N M : ℕ) → Before s N t M → T (leZ (signed s N) (signed t M))
 signed-le false false N M h = le→leb N M h
@@ -36,16 +40,6 @@ near-before true false M d N e D E h = tt
 near-before true true M d N e D E h = near-mono N e M d E D h
 
 -- ---- an infinity and any number
-abbrev Number : Float → Type 0
-Number nan = ⊥
-Number (inf s) = Unit {0}
-Number (fin s m e) = Unit {0}
-
-number : (s : Bool) (y : Float) → Sign s y → Number y
-number s nan p = absurd p
-number s (inf t) p = tt
-number s (fin t m e) p = tt
-
 bottom : (y : Float) → Number y → T (le (inf true) y)
 unfolding le lt eq
 bottom nan p = absurd p
@@ -147,6 +141,10 @@ whole-keeps = record {
       (signed-le s t (nearUp (m * up e) (down e)) (nearUp (n * up d) (down d)) (near-before s t (m * up e) (down e) (n * up d) (down d) (down-pos e) (down-pos d) h)));
 }
 
+pub div-keeps-order : (k : ℕ) (x y : Float) → T (le x y) → T (le (div binary32 x (two k)) (div binary32 y (two k)))
+unfolding over
+div-keeps-order k x y h = keeps (over k) (over-keeps k) x y h
+
 -- ---- THE LAW FOR ANY STEP AND ANY TWO FLOATS
 pub round-keeps-order : (k : ℕ) (x y : Float) → T (le x y) → T (le (roundUi k x) (roundUi k y))
 unfolding roundBy times over
@@ -154,3 +152,30 @@ round-keeps-order k x y h =
     keeps (over k) (over-keeps k) (roundF (times k x)) (roundF (times k y))
     (keeps roundF whole-keeps (times k x) (times k y)
     (keeps (times k) (times-keeps k) x y h))
+
+-- ---- so no rectangle is turned inside out
+round-nan : (k : ℕ) → roundUi k nan ≡ nan
+unfolding roundBy roundF mul div
+round-nan k = refl
+
+nan-below : (x y : Float) → (x ≡ nan) ⊎ (y ≡ nan) → lt x y ≡ false
+nan-below x y (inl e) = rw e (lt-nan y .0)
+nan-below x y (inr e) = rw e (lt-nan x .1)
+
+pub round-not-below : (k : ℕ) (x y : Float) → lt y x ≡ false → lt (roundUi k y) (roundUi k x) ≡ false
+round-not-below k x y h = go (nan-or-number x) (nan-or-number y)
+  where
+    go : (x ≡ nan) ⊎ Number x → (y ≡ nan) ⊎ Number y → lt (roundUi k y) (roundUi k x) ≡ false
+    go (inl e) q = nan-below (roundUi k y) (roundUi k x) (inr (ap (roundUi k) e ∙ round-nan k))
+    go (inr p) (inl e) = nan-below (roundUi k y) (roundUi k x) (inl (ap (roundUi k) e ∙ round-nan k))
+    go (inr p) (inr q) = le-not-lt (roundUi k x) (roundUi k y) (round-keeps-order k x y (not-lt-le x y p q h))
+
+pub round-not-inside-out : (k : ℕ) (r : Rect) → insideOut r ≡ false → insideOut (roundRect k r) ≡ false
+unfolding insideOut roundRect
+round-not-inside-out k r h =
+    let p = neither (lt (r .right) (r .left)) (lt (r .bottom) (r .top)) h in
+    rw (round-not-below k (r .left) (r .right) (p .0), round-not-below k (r .top) (r .bottom) (p .1))
+  where
+    neither : (a b : Bool) → a || b ≡ false → (a ≡ false) × (b ≡ false)
+    neither true b h = absurd (true≢false h)
+    neither false b h = (refl, h)

@@ -193,7 +193,7 @@ pub eq-inf : (k : ℕ) → k ≤ 149 → (a : ℤ) → Small a → (s : Bool) �
 eq-inf k l a A s = fin-lt (val k a) s (sgn a) (natAbs a) (2 ^ k) (val-is k a l A) .3
 
 -- ---- a count times a length
-times-at : (x y : Float) (t : Bool) (n A c : ℕ) → 0 < c → HasValue x false n 1 → HasValue y t A c → mul binary32 x y ≡ round binary32 t (n * A) c
+pub times-at : (x y : Float) (t : Bool) (n A c : ℕ) → 0 < c → HasValue x false n 1 → HasValue y t A c → mul binary32 x y ≡ round binary32 t (n * A) c
 unfolding mul
 times-at nan y t n A c C p q = absurd p
 times-at (inf r) y t n A c C p q = absurd p

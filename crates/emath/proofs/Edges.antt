@@ -4,22 +4,22 @@ use mathlib.Core.Path.{_≡_, refl, sym, _∙_, ap}
 use mathlib.Core.Bool.{Bool, true, false, not}
 use Prim.Native.Nat.{ℕ, zero, suc, _*_, _^_, _≤_, _<_}
 use native.Mathlib.Omega.{arith}
-use native.Mathlib.Nat.{add-zero}
+use native.Mathlib.Nat.{add-zero, mul-le-mul}
 use lib.Dec.{T, leb, leb→le, nleb→lt, le→leb}
 use lib.IntN.{ℤ, pos, negsuc, negℤ, natAbs, _*ℤ_}
 use lib.Signed.{leZ}
 use lib.Pow.{pow-pos, pow-mono}
-use lib.Ieee.{Float, nan, inf, fin, binary32, ofBits, up, down, round, neg, mul, div, le, lt, eq, unlike}
+use lib.Ieee.{Float, nan, inf, fin, binary32, ofBits, up, down, round, neg, mul, div, le, lt, eq, unlike, fits}
 use lib.Ieee.Fits.{and-i, and-l, and-r}
 use Rattle.emath.specs.Rectangles.{nearUp, roundF, roundBy, roundUi}
 use Rattle.emath.specs.Domain.{limit, within}
-use Rattle.emath.specs.Steps.{two, signed, val, most, Edge}
+use Rattle.emath.specs.Steps.{two, signed, val, HalfStep, most, Edge}
 use Rattle.emath.proofs.Whole.{Within, natAbs-within, within-natAbs, more-neg, less-neg, leZ→, →leZ}
 use Rattle.emath.proofs.Exact.{Small}
 use Rattle.emath.proofs.Values.{val-le, neg-round, val-neg, val-div, val-finer}
-use Rattle.emath.proofs.Order.{turn, val-mono}
+use Rattle.emath.proofs.Order.{before, turn, val-mono}
 use Rattle.emath.proofs.OrderLaws.{le-trans}
-use Rattle.emath.proofs.Rounding.{sign-val, small-signed, val-whole}
+use Rattle.emath.proofs.Rounding.{sign-val, small-signed, half-step, val-whole}
 use Rattle.emath.proofs.RoundOrder.{div-keeps-order, round-keeps-order}
 
 -- ---- the limit, in steps
@@ -170,3 +170,15 @@ module _ (k : ℕ) (l : k ≤ 7) where
 
   pub within-edge : (x : Float) → T (within x) → Edge k (roundUi k x)
   within-edge x t = round-edge x (round-within x t)
+
+-- ---- a finite edge of the domain is moved by at most half a step: at k = 5, by at most 1/64 point
+in-limit : (s : Bool) (m : ℕ) (e : ℤ) → T (within (fin s m e)) → m * up e ≤ 65536 * down e
+unfolding within le lt eq neg ofBits
+in-limit false m e t = omega (arith, before false (m * up e * 1) false (1 * 2 ^ 16 * down e) (and-r (le (neg limit) (fin false m e)) (le (fin false m e) limit) t))
+in-limit true m e t = omega (arith, before true (1 * 2 ^ 16 * down e) true (m * up e * 1) (and-l (le (neg limit) (fin true m e)) (le (fin true m e) limit) t))
+
+pub half-step-within : (k : ℕ) → k ≤ 8 → (s : Bool) (m : ℕ) (e : ℤ) → T (fits binary32 (fin s m e)) → T (within (fin s m e)) → HalfStep k s m e (roundUi k (fin s m e))
+half-step-within k l s m e f t = half-step k (omega arith) s m e f (scale (m * up e) (down e) (2 ^ k) (in-limit s m e t) (pow-mono {i = k} {j = 8} l))
+  where
+    scale : (M d p : ℕ) → M ≤ 65536 * d → p ≤ 256 → M * p ≤ 2 ^ 24 * d
+    scale M d p h q = omega (arith, mul-le-mul h q)

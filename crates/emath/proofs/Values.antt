@@ -4,18 +4,17 @@ use Prim.Native.Nat.{ℕ, zero, suc, _+_, _-_, _*_, _/_, _%_, _^_, compare, _≤
 use native.Mathlib.Nat.{mul-pos, zero-lt-suc, eq-of-mul-eq-mul-right, mul-comm}
 use native.Mathlib.Omega.{arith}
 use mathlib.Core.Bool.{Bool, true, false, not, cond}
-use lib.Dec.{T, ltb, le→leb, lt→ltb}
+use lib.Dec.{ltb}
 use lib.IntN.{ℤ, pos, negsuc, negℤ, natAbs, _+ℤ_, _-ℤ_, _*ℤ_}
 use lib.Signed.{ltZ, leZ}
 use lib.Pow.{pow-add, pow-pos}
-use lib.Ieee.{Float, nan, inf, fin, Format, prec, emax, low, size, nearest, odd, units, binary32, up, down, round, add, sub, mul, div, neg, lt, le, eq, unlike, ofInt, inFloat, inSigned, toSigned}
+use lib.Ieee.{Float, nan, inf, fin, Format, prec, emax, low, size, nearest, odd, units, binary32, up, down, round, add, sub, mul, div, neg, lt, le, eq, unlike}
 use lib.Ieee.Fits.{down-pos}
 use lib.Ieee.Exact.{HasValue}
-use lib.Ieee.Back.{positive-back, negative-back}
 use lib.Ieee.Scale.{round-same}
 use Rattle.emath.specs.Rectangles.{minF, maxF}
 use Rattle.emath.specs.Steps.{two, sgn, val}
-use Rattle.emath.proofs.Whole.{more, less, natAbs-within, sum, maxZ, minZ, whole}
+use Rattle.emath.proofs.Whole.{more, less, sum, maxZ, minZ, whole}
 use Rattle.emath.proofs.Exact.{Small, eqZ, val-is, add-is, sub-is, lt-is, eq-is, le-is, ne-is}
 
 module _ (k : ℕ) (l : k ≤ 149) (a b : ℤ) (A : Small a) (B : Small b) where
@@ -174,20 +173,6 @@ module _ (k : ℕ) (l : k ≤ 149) (a : ℤ) (A : Small (a +ℤ a)) where
 
   pub val-times-half : mul binary32 (val k (a +ℤ a)) (fin false 1 (negsuc 0)) ≡ val k a
   val-times-half = val-half k 1 (a +ℤ a) A l ∙ ap (val (1 + k)) (twice a) ∙ val-finer k 1 a
-
--- ---- to and from an integer
-pub val-of-int : (z : ℤ) → ofInt binary32 z ≡ val 0 z
-unfolding ofInt val
-val-of-int (pos n) = refl
-val-of-int (negsuc n) = refl
-
-pub val-to-int : (z : ℤ) → Small z → T (inSigned binary32 31 (val 0 z)) × (toSigned 31 (val 0 z) ≡ z)
-unfolding inFloat
-val-to-int z h = rw (← (val-of-int z)) (go z (natAbs-within h))
-  where
-    go : (z : ℤ) → natAbs z ≤ 2 ^ 24 → T (inSigned binary32 31 (ofInt binary32 z)) × (toSigned 31 (ofInt binary32 z) ≡ z)
-    go (pos n) h = positive-back binary32 31 n (le→leb n (2 ^ 24) h) (omega arith)
-    go (negsuc n) h = negative-back binary32 31 n (lt→ltb n (2 ^ 24) h) (omega arith)
 
 pub eq-inf : (k : ℕ) → k ≤ 149 → (a : ℤ) → Small a → (s : Bool) → eq (val k a) (inf s) ≡ false
 eq-inf k l a A s = fin-lt (val k a) s (sgn a) (natAbs a) (2 ^ k) (val-is k a l A) .3

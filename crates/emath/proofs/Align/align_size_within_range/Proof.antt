@@ -1,3 +1,4 @@
+-- `emath::Align::align_size_within_range` meets its contract. Assumes nothing.
 use borrow.Author.Needs.{needs}
 use Rattle.emath.specs.Rectangles.{alignOn, alignedTo}
 use Rattle.emath.proofs.Align.align_size_within_range.Statement.{statement}

@@ -1,3 +1,4 @@
+-- `emath::Align2::align_size_within_rect` meets its contract. Assumes nothing.
 use Rattle.emath.specs.Rectangles.{alignWithin}
 use Rattle.emath.proofs.Align2.align_size_within_rect.Statement.{statement}
 use Rattle.emath.proofs.Align2.align_size_within_rect.Tie as tie

@@ -1,3 +1,4 @@
+-- `emath::Rect::extend_with_x` meets its contract. Assumes nothing.
 use Rattle.emath.specs.Rectangles.{extendWithX}
 use Rattle.emath.proofs.Rect.extend_with_x.Statement.{statement}
 use Rattle.emath.proofs.Rect.extend_with_x.Tie as tie

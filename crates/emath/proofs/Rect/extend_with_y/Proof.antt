@@ -1,3 +1,4 @@
+-- `emath::Rect::extend_with_y` meets its contract. Assumes nothing.
 use Rattle.emath.specs.Rectangles.{extendWithY}
 use Rattle.emath.proofs.Rect.extend_with_y.Statement.{statement}
 use Rattle.emath.proofs.Rect.extend_with_y.Tie as tie

@@ -1,3 +1,4 @@
+-- `emath::Rect::intersect` meets its contract. Assumes nothing.
 use Rattle.emath.specs.Rectangles.{intersect}
 use Rattle.emath.proofs.Rect.intersect.Statement.{statement}
 use Rattle.emath.proofs.Rect.intersect.Tie as tie

@@ -1,3 +1,4 @@
+-- `emath::Rect::intersects` meets its contract. Assumes nothing.
 use mathlib.Core.Path.{refl}
 use Rattle.emath.specs.Rectangles.{intersects}
 use Rattle.emath.proofs.Rect.intersects.Statement.{statement}

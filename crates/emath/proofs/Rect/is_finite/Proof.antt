@@ -1,3 +1,4 @@
+-- `emath::Rect::is_finite` meets its contract. Assumes nothing.
 use Rattle.emath.specs.Domain.{edgesOf}
 use Rattle.emath.proofs.Rect.is_finite.Statement.{statement}
 use Rattle.emath.proofs.Rect.is_finite.Tie as tie

@@ -1,3 +1,4 @@
+-- `emath::Rect::is_inside_out` meets its contract. Assumes nothing.
 use mathlib.Core.Path.{refl}
 use Rattle.emath.specs.Domain.{insideOut}
 use Rattle.emath.proofs.Rect.is_inside_out.Statement.{statement}

@@ -1,3 +1,4 @@
+-- `emath::Rect::is_within` meets its contract. Assumes nothing.
 use Rattle.emath.specs.Domain.{edgesOf}
 use Rattle.emath.proofs.Rect.is_within.Statement.{statement}
 use Rattle.emath.proofs.Rect.is_within.Tie as tie

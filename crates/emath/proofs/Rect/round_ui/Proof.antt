@@ -1,3 +1,4 @@
+-- `emath::Rect::round_ui` meets its contract. Assumes nothing.
 use Rattle.emath.specs.Rectangles.{roundRect}
 use Rattle.emath.proofs.Rect.round_ui.Statement.{statement}
 use Rattle.emath.proofs.Rect.round_ui.Tie as tie

@@ -1,3 +1,4 @@
+-- `emath::Rect::translate` meets its contract. Assumes nothing.
 use Rattle.emath.specs.Rectangles.{translate}
 use Rattle.emath.proofs.Rect.translate.Statement.{statement}
 use Rattle.emath.proofs.Rect.translate.Tie as tie

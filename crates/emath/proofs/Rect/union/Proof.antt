@@ -1,3 +1,4 @@
+-- `emath::Rect::union` meets its contract. Assumes nothing.
 use Rattle.emath.specs.Rectangles.{union}
 use Rattle.emath.proofs.Rect.union.Statement.{statement}
 use Rattle.emath.proofs.Rect.union.Tie as tie

@@ -1,3 +1,4 @@
+-- `emath::Vec2::is_negative` meets its contract. Assumes nothing.
 use mathlib.Core.Path.{refl}
 use Rattle.emath.specs.Domain.{negative}
 use Rattle.emath.proofs.Vec2.is_negative.Statement.{statement}

@@ -1,3 +1,4 @@
+-- `emath::aligning::centred_in` meets its contract. Assumes nothing.
 use lib.Ieee.{ofBits, div, neg}
 use Rattle.emath.specs.Rectangles.{centred}
 use Rattle.emath.proofs.aligning.centred_in.Statement.{statement}

@@ -1,3 +1,4 @@
+-- `emath::aligning::fills` meets its contract. Assumes nothing.
 use Rattle.emath.proofs.aligning.fills.Statement.{statement}
 use Rattle.emath.proofs.aligning.fills.Tie as tie
 

@@ -1,3 +1,4 @@
+-- `emath::domain::both_finite` meets its contract. Assumes nothing.
 use Rattle.emath.specs.Domain.{bothOf}
 use Rattle.emath.proofs.domain.both_finite.Statement.{statement}
 use Rattle.emath.proofs.domain.both_finite.Tie as tie

@@ -1,3 +1,4 @@
+-- `emath::domain::both_within` meets its contract. Assumes nothing.
 use Rattle.emath.specs.Domain.{bothOf}
 use Rattle.emath.proofs.domain.both_within.Statement.{statement}
 use Rattle.emath.proofs.domain.both_within.Tie as tie

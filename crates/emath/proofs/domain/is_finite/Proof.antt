@@ -1,3 +1,4 @@
+-- `emath::domain::is_finite` meets its contract. Assumes nothing.
 use Rattle.emath.proofs.Refusals.{finite-is}
 use Rattle.emath.proofs.domain.is_finite.Statement.{statement}
 use Rattle.emath.proofs.domain.is_finite.Tie as tie

@@ -1,3 +1,4 @@
+-- `emath::domain::is_within` meets its contract. Assumes nothing.
 use mathlib.Core.Path.{refl}
 use Rattle.emath.specs.Domain.{within}
 use Rattle.emath.proofs.domain.is_within.Statement.{statement}

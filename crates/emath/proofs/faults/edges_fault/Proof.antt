@@ -1,3 +1,4 @@
+-- `emath::faults::edges_fault` meets its contract. Assumes nothing.
 use mathlib.Core.Path.{sym, _∙_}
 use Rattle.emath.specs.Refusals.{edgesFault, least}
 use Rattle.emath.proofs.Refusals.{no-fault}

@@ -1,3 +1,4 @@
+-- `emath::faults::extent_fault` meets its contract. Assumes nothing.
 use Rattle.emath.specs.Refusals.{extentFault, least}
 use Rattle.emath.proofs.faults.extent_fault.Statement.{statement}
 use Rattle.emath.proofs.faults.extent_fault.Tie as tie

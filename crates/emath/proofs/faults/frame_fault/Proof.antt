@@ -1,3 +1,4 @@
+-- `emath::faults::frame_fault` meets its contract. Assumes nothing.
 use Rattle.emath.specs.Refusals.{frameFault, least}
 use Rattle.emath.proofs.faults.frame_fault.Statement.{statement}
 use Rattle.emath.proofs.faults.frame_fault.Tie as tie

@@ -1,3 +1,4 @@
+-- `emath::faults::length_fault` meets its contract. Assumes nothing.
 use Rattle.emath.specs.Refusals.{lengthFault, least}
 use Rattle.emath.proofs.faults.length_fault.Statement.{statement}
 use Rattle.emath.proofs.faults.length_fault.Tie as tie

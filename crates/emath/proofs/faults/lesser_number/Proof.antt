@@ -1,3 +1,4 @@
+-- `emath::faults::lesser_number` meets its contract. Assumes nothing.
 use borrow.Author.Tests.{eq-eqb, le-ltb, lt-ltb, ne-eqb}
 use Rattle.emath.specs.Refusals.{lesser}
 use Rattle.emath.proofs.faults.lesser_number.Statement.{statement}

@@ -1,3 +1,4 @@
+-- `emath::faults::or_else` meets its contract. Assumes nothing.
 use borrow.Author.Tests.{eq-eqb, ne-eqb}
 use Rattle.emath.specs.Refusals.{orElse}
 use Rattle.emath.proofs.faults.or_else.Statement.{statement}

@@ -1,3 +1,4 @@
+-- `emath::faults::outside_domain` meets its contract. Assumes nothing.
 use borrow.Author.Tests.{eq-eqb, ne-eqb}
 use Rattle.emath.specs.Refusals.{outside}
 use Rattle.emath.proofs.faults.outside_domain.Statement.{statement}

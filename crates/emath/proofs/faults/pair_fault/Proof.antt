@@ -1,3 +1,4 @@
+-- `emath::faults::pair_fault` meets its contract. Assumes nothing.
 use Rattle.emath.specs.Refusals.{pairFault, least}
 use Rattle.emath.proofs.faults.pair_fault.Statement.{statement}
 use Rattle.emath.proofs.faults.pair_fault.Tie as tie

@@ -1,3 +1,4 @@
+-- `emath::faults::rect_fault` meets its contract. Assumes nothing.
 use Rattle.emath.specs.Refusals.{rectFault, least}
 use Rattle.emath.proofs.faults.rect_fault.Statement.{statement}
 use Rattle.emath.proofs.faults.rect_fault.Tie as tie

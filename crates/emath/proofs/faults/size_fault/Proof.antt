@@ -1,3 +1,4 @@
+-- `emath::faults::size_fault` meets its contract. Assumes nothing.
 use Rattle.emath.specs.Refusals.{sizeFault, least}
 use Rattle.emath.proofs.faults.size_fault.Statement.{statement}
 use Rattle.emath.proofs.faults.size_fault.Tie as tie

@@ -1,3 +1,4 @@
+-- `emath::gui_rounding::near` meets its contract. Assumes nothing.
 use Prim.Native.Nat.{_+_, _/_, _^_}
 use native.Mathlib.Omega.{arith}
 use lib.Dec.{T, le→leb}

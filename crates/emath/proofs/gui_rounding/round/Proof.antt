@@ -1,3 +1,4 @@
+-- `emath::gui_rounding::round` meets its contract. Assumes nothing.
 use mathlib.Core.Path.{sym}
 use lib.Ieee.{ofBits, neg}
 use Rattle.emath.proofs.NearestWhole.{opposite, below-zero, at-zero, from-low, from-high}

@@ -1,3 +1,4 @@
+-- `emath::gui_rounding::round_by` meets its contract. Assumes nothing.
 use Rattle.emath.specs.Rectangles.{roundBy}
 use Rattle.emath.proofs.gui_rounding.round_by.Statement.{statement}
 use Rattle.emath.proofs.gui_rounding.round_by.Tie as tie

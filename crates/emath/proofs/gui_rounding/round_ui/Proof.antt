@@ -1,3 +1,4 @@
+-- `emath::gui_rounding::round_ui` meets its contract. Assumes nothing.
 use lib.Ieee.{ofBits}
 use Rattle.emath.proofs.gui_rounding.round_ui.Statement.{statement}
 use Rattle.emath.proofs.gui_rounding.round_ui.Tie as tie

@@ -1,3 +1,4 @@
+-- `emath::num::infinity` meets its contract. Assumes nothing.
 use mathlib.Core.Path.{refl}
 use lib.Ieee.{div, ofBits}
 use Rattle.emath.proofs.num.infinity.Statement.{statement}

@@ -1,3 +1,4 @@
+-- `emath::num::is_infinite` meets its contract. Assumes nothing.
 use lib.Ieee.{ofBits, div}
 use mathlib.Core.Path.{refl}
 use Rattle.emath.proofs.num.is_infinite.Statement.{statement}

@@ -1,3 +1,4 @@
+-- `emath::num::max` meets its contract. Assumes nothing.
 use Rattle.emath.specs.Rectangles.{maxF}
 use Rattle.emath.proofs.num.max.Statement.{statement}
 use Rattle.emath.proofs.num.max.Tie as tie

@@ -1,3 +1,4 @@
+-- `emath::num::min` meets its contract. Assumes nothing.
 use Rattle.emath.specs.Rectangles.{minF}
 use Rattle.emath.proofs.num.min.Statement.{statement}
 use Rattle.emath.proofs.num.min.Tie as tie

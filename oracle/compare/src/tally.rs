@@ -1,0 +1,141 @@
+//! Runs cases, counts them, and shows where the two sides differ.
+
+use crate::rng::Rng;
+use crate::values::Values;
+
+/// Differences that are printed in full; the rest are counted.
+const SHOWN: u64 = 10;
+
+/// What goes into an operation or comes out of it.
+pub trait Shown {
+    /// Values, and the bits of floats.
+    fn show(&self) -> String;
+}
+
+pub trait Same: Shown {
+    /// The same bits, "a zero's sign aside"; any NaN is any other.
+    fn same(&self, other: &Self) -> bool;
+}
+
+impl Shown for f32 {
+    fn show(&self) -> String {
+        format!("{self:?} ({:#010x})", self.to_bits())
+    }
+}
+
+impl Same for f32 {
+    fn same(&self, other: &Self) -> bool {
+        let zeros = *self == 0.0 && *other == 0.0;
+        self.to_bits() == other.to_bits() || self.is_nan() && other.is_nan() || zeros
+    }
+}
+
+impl Shown for u8 {
+    fn show(&self) -> String {
+        self.to_string()
+    }
+}
+
+impl Same for u8 {
+    fn same(&self, other: &Self) -> bool {
+        self == other
+    }
+}
+
+impl Shown for bool {
+    fn show(&self) -> String {
+        self.to_string()
+    }
+}
+
+impl Shown for () {
+    fn show(&self) -> String {
+        "nothing".into()
+    }
+}
+
+impl<const N: usize> Shown for [f32; N] {
+    fn show(&self) -> String {
+        format!("[{}]", self.map(|x| x.show()).join(", "))
+    }
+}
+
+impl<const N: usize> Same for [f32; N] {
+    fn same(&self, other: &Self) -> bool {
+        self.iter().zip(other).all(|(a, b)| a.same(b))
+    }
+}
+
+impl<A: Shown, B: Shown> Shown for (A, B) {
+    fn show(&self) -> String {
+        format!("{}, {}", self.0.show(), self.1.show())
+    }
+}
+
+impl<A: Shown, B: Shown, C: Shown> Shown for (A, B, C) {
+    fn show(&self) -> String {
+        format!("{}, {}, {}", self.0.show(), self.1.show(), self.2.show())
+    }
+}
+
+pub struct Tally {
+    pub cases: u64,
+    pub differences: u64,
+    pub times: u64,
+    seed: u64,
+}
+
+impl Tally {
+    pub fn new(seed: u64, times: u64) -> Self {
+        Self {
+            cases: 0,
+            differences: 0,
+            times,
+            seed,
+        }
+    }
+
+    /// Compares on drawn arguments: `thousands` of them in a run of `--times 1`.
+    pub fn drawn<I: Shown, T: Same>(
+        &mut self,
+        name: &str,
+        thousands: u64,
+        draw: impl Fn(&mut Values) -> I,
+        rattle: impl Fn(&I) -> T,
+        rust: impl Fn(&I) -> T,
+    ) {
+        let mut values = Values::new(Rng::new(self.seed, name));
+        let cases = (0..thousands * 1_000 * self.times).map(|_| {
+            values.begin();
+            draw(&mut values)
+        });
+        self.each(name, cases, rattle, rust);
+    }
+
+    /// Compares on the arguments given.
+    pub fn each<I: Shown, T: Same>(
+        &mut self,
+        name: &str,
+        cases: impl Iterator<Item = I>,
+        rattle: impl Fn(&I) -> T,
+        rust: impl Fn(&I) -> T,
+    ) {
+        let (mut compared, mut differing) = (0_u64, 0_u64);
+        for case in cases {
+            compared += 1;
+            let (ours, theirs) = (rattle(&case), rust(&case));
+            if ours.same(&theirs) {
+                continue;
+            }
+            differing += 1;
+            if self.differences + differing <= SHOWN {
+                println!("differs: {name} of {}", case.show());
+                println!("  Rattle {}", ours.show());
+                println!("  Rust   {}", theirs.show());
+            }
+        }
+        println!("{name}: {compared} cases, {differing} differ");
+        self.cases += compared;
+        self.differences += differing;
+    }
+}

@@ -82,6 +82,13 @@ translate r d = fromMinSize (record { x = add binary32 (r .left) (d .x); y = add
 abbrev pub leftCenter : Align2
 leftCenter = record { x = Min; y = Center }
 
+-- an alignment with one of its two set anew
+abbrev pub withX : Align2 → Align → Align2
+withX a x = record { x = x; y = a .y }
+
+abbrev pub withY : Align2 → Align → Align2
+withY a y = record { x = a .x; y = y }
+
 -- "intersect: max of lows, min of highs."
 unfoldable pub intersect : Rect → Rect → Rect
 intersect a b = record { left = maxF (a .left) (b .left); top = maxF (a .top) (b .top); right = minF (a .right) (b .right); bottom = minF (a .bottom) (b .bottom) }

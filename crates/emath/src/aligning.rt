@@ -2,7 +2,7 @@
 ghost use mathlib.Core.Path.{_≡_};
 ghost use mathlib.Core.Bool.{_&&_};
 ghost use lib.Ieee.{binary32, sub};
-ghost use Rattle.emath.specs.Rectangles.{isInfinite, centred, alignOn, alignWithin};
+ghost use Rattle.emath.specs.Rectangles.{isInfinite, centred, alignOn, alignWithin, withX, withY};
 use crate::Align;
 use crate::Align2;
 use crate::Rangef;
@@ -73,6 +73,20 @@ impl Align2 {
         x: Align::Min,
         y: Align::Center,
     };
+
+    pub fn with_x(self, x: Align) -> Align2
+        ensures { λ r. ⌜ r ≡ withX self x ⌝ }
+    {
+        let y = self.y;
+        Align2 { x: x, y: y }
+    }
+
+    pub fn with_y(self, y: Align) -> Align2
+        ensures { λ r. ⌜ r ≡ withY self y ⌝ }
+    {
+        let x = self.x;
+        Align2 { x: x, y: y }
+    }
 
     pub fn align_size_within_rect(self, size: Vec2, frame: Rect) -> Rect
         ensures { λ r. ⌜ r ≡ alignWithin self size frame ⌝ }

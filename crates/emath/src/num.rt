@@ -1,6 +1,6 @@
 // Two numbers: document 01's min, max, at_least, at_most and midpoint.
 ghost use mathlib.Core.Path.{_≡_};
-ghost use lib.Ieee.{inf};
+ghost use lib.Ieee.{inf, nan};
 ghost use mathlib.Core.Bool.{true, false};
 ghost use Rattle.emath.specs.Rectangles.{minF, maxF, atLeast, atMost, midpoint, isInfinite};
 
@@ -53,6 +53,13 @@ pub fn infinity() -> f32
     ensures { λ r. ⌜ r ≡ inf false ⌝ }
 {
     1.0 / 0.0
+}
+
+// Nor has NaN.
+pub fn nan() -> f32
+    ensures { λ r. ⌜ r ≡ nan ⌝ }
+{
+    0.0 / 0.0
 }
 
 // +infinity alone.

@@ -1,0 +1,12 @@
+-- `layout::Layout::next_frame` meets its contract. Assumes nothing.
+use Rattle.layout.specs.Operations.{checkedNextFrame}
+use Rattle.emath.specs.Refusals.{least}
+use Rattle.layout.proofs.Layout.next_frame.Statement.{statement}
+use Rattle.layout.proofs.Layout.next_frame.Tie as tie
+
+returns : tie.Need-returns
+unfolding checkedNextFrame least
+returns c = rw (c .framed-rect .ensures, c .before .lesser-number2 .ensures, c .before .before .region-fault .ensures, c .before .before .before .lesser-number .ensures, c .before .before .before .before .pair-fault .ensures, c .before .before .before .before .before .size-fault .ensures, c .before .before .before .before .before .before .next-frame .ensures)
+
+pub next-frame-spec : {M : Type 1} → statement M
+next-frame-spec = tie.close (tie.spec (λ c κs. tt) (λ c κs. tt) (λ c κs. tt) (λ c κs. tt) (λ c κs. tt) (λ c κs. tt) (λ c κs. tt) returns)

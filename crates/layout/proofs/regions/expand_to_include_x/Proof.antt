@@ -1,0 +1,11 @@
+-- `layout::regions::expand_to_include_x` meets its contract. Assumes nothing.
+use Rattle.layout.specs.Rules.{expandToIncludeX}
+use Rattle.layout.proofs.regions.expand_to_include_x.Statement.{statement}
+use Rattle.layout.proofs.regions.expand_to_include_x.Tie as tie
+
+returns : tie.Need-returns
+unfolding expandToIncludeX
+returns c = rw (c .extend-with-x3 .ensures, c .before .extend-with-x2 .ensures, c .before .before .extend-with-x .ensures)
+
+pub expand-to-include-x-spec : {M : Type 1} → statement M
+expand-to-include-x-spec = tie.close (tie.spec (λ c κs. tt) (λ c κs. tt) (λ c κs. tt) returns)

@@ -1,0 +1,96 @@
+-- The public calls of layout.rs: the least number that applies to the arguments, or else to the answer, or else what the rule gives.
+-- "Callers' states count as arguments." Every call rounds to ticks: k = 5.
+use Prim.Native.Nat.{ℕ}
+use mathlib.Core.List.{[], _∷_}
+use lib.Ieee.{Float}
+use Rattle.emath.specs.Refusals.{least, orElse, lengthFault, pairFault, sizeFault, edgesFault, rectFault, outside, frameFault}
+use Rattle.emath.specs.declared.Rect.{Rect}
+use Rattle.emath.specs.declared.Vec2.{Vec2}
+use Rattle.layout.specs.Rules.{alignSizeWithinRect, initialCursor, regionFromMaxRect, availableRectBeforeWrap, availableSize, availableFromCursorMaxRect, nextFrame, nextFrameIgnoreWrap, justifyAndAlign, nextWidgetSpaceIgnoreWrapJustify, nextWidgetPosition, advanceCursor, advanceAfterRects, endRow, setRowHeight, expandToIncludeRect, expandToIncludeX, expandToIncludeY}
+use Rattle.layout.specs.Refusals.{cursorFault, regionFault, zeroRegion, rectAnswer, posAnswer, sizeAnswer, regionAnswer, cursorAnswer}
+use Rattle.layout.specs.declared.Direction.{Direction}
+use Rattle.layout.specs.declared.Layout.{Layout}
+use Rattle.layout.specs.declared.Region.{Region}
+use Rattle.layout.specs.declared.RectAnswer.{RectAnswer}
+use Rattle.layout.specs.declared.PosAnswer.{PosAnswer}
+use Rattle.layout.specs.declared.SizeAnswer.{SizeAnswer}
+use Rattle.layout.specs.declared.RegionAnswer.{RegionAnswer}
+use Rattle.layout.specs.declared.CursorAnswer.{CursorAnswer}
+
+-- ---- a rectangle that is not a frame, a frame, a new region
+unfoldable pub placed : ℕ → Rect → RectAnswer
+placed before r = rectAnswer (orElse before (outside (edgesFault r))) r
+
+unfoldable pub framed : ℕ → Rect → RectAnswer
+framed before r = rectAnswer (orElse before (frameFault r)) r
+
+unfoldable pub moved : Direction → ℕ → Region → Region → RegionAnswer
+moved d before given new = regionAnswer (orElse before (outside (regionFault d new))) given new
+
+-- ---- Layout
+unfoldable pub checkedAlignSizeWithinRect : Layout → Vec2 → Rect → RectAnswer
+checkedAlignSizeWithinRect l size outer = placed (least (sizeFault size ∷ rectFault outer ∷ [])) (alignSizeWithinRect 5 l size outer)
+
+-- its answer is a cursor, whose open edge is infinite
+unfoldable pub checkedInitialCursor : Layout → Rect → RectAnswer
+checkedInitialCursor l m = rectAnswer (orElse (rectFault m) (outside (cursorFault (l .«main_dir») (initialCursor (l .«main_dir») m)))) (initialCursor (l .«main_dir») m)
+
+-- there is no given region: a refused one is all zero
+unfoldable pub checkedRegionFromMaxRect : Layout → Rect → RegionAnswer
+checkedRegionFromMaxRect l m = moved (l .«main_dir») (rectFault m) zeroRegion (regionFromMaxRect 5 l m)
+
+unfoldable pub checkedAvailableRectBeforeWrap : Layout → Region → RectAnswer
+checkedAvailableRectBeforeWrap l g = placed (regionFault (l .«main_dir») g) (availableRectBeforeWrap (l .«main_dir») g)
+
+unfoldable pub checkedAvailableSize : Layout → Region → SizeAnswer
+checkedAvailableSize l g =
+    sizeAnswer (orElse (regionFault (l .«main_dir») g) (outside (pairFault (availableSize l g .x) (availableSize l g .y)))) (availableSize l g)
+
+unfoldable pub checkedAvailableFromCursorMaxRect : Layout → Rect → Rect → RectAnswer
+checkedAvailableFromCursorMaxRect l c m =
+    placed (least (cursorFault (l .«main_dir») c ∷ rectFault m ∷ [])) (availableFromCursorMaxRect (l .«main_dir») c m)
+
+unfoldable pub checkedNextFrame : Layout → Region → Vec2 → Vec2 → RectAnswer
+checkedNextFrame l g s sp = framed (least (regionFault (l .«main_dir») g ∷ sizeFault s ∷ pairFault (sp .x) (sp .y) ∷ [])) (nextFrame 5 l g s sp)
+
+unfoldable pub checkedNextFrameIgnoreWrap : Layout → Region → Vec2 → RectAnswer
+checkedNextFrameIgnoreWrap l g s = framed (least (regionFault (l .«main_dir») g ∷ sizeFault s ∷ [])) (nextFrameIgnoreWrap 5 l g s)
+
+unfoldable pub checkedJustifyAndAlign : Layout → Rect → Vec2 → RectAnswer
+checkedJustifyAndAlign l f s = placed (least (rectFault f ∷ sizeFault s ∷ [])) (justifyAndAlign 5 l f s)
+
+unfoldable pub checkedNextWidgetSpaceIgnoreWrapJustify : Layout → Region → Vec2 → RectAnswer
+checkedNextWidgetSpaceIgnoreWrapJustify l g s =
+    placed (least (regionFault (l .«main_dir») g ∷ sizeFault s ∷ [])) (nextWidgetSpaceIgnoreWrapJustify 5 l g s)
+
+unfoldable pub checkedNextWidgetPosition : Layout → Region → PosAnswer
+checkedNextWidgetPosition l g =
+    posAnswer (orElse (regionFault (l .«main_dir») g) (outside (pairFault (nextWidgetPosition 5 l g .x) (nextWidgetPosition 5 l g .y)))) (nextWidgetPosition 5 l g)
+
+unfoldable pub checkedAdvanceCursor : Layout → Region → Float → RegionAnswer
+checkedAdvanceCursor l g a =
+    moved (l .«main_dir») (least (regionFault (l .«main_dir») g ∷ lengthFault a ∷ [])) g (advanceCursor (l .«main_dir») g a)
+
+unfoldable pub checkedAdvanceAfterRects : Layout → Rect → Rect → Rect → Vec2 → CursorAnswer
+checkedAdvanceAfterRects l c f w sp =
+    cursorAnswer
+    (orElse
+    (least (cursorFault (l .«main_dir») c ∷ rectFault f ∷ rectFault w ∷ pairFault (sp .x) (sp .y) ∷ []))
+    (outside (cursorFault (l .«main_dir») (advanceAfterRects l c f w sp))))
+    c (advanceAfterRects l c f w sp)
+
+unfoldable pub checkedEndRow : Layout → Region → Vec2 → RegionAnswer
+checkedEndRow l g sp = moved (l .«main_dir») (least (regionFault (l .«main_dir») g ∷ pairFault (sp .x) (sp .y) ∷ [])) g (endRow l g sp)
+
+unfoldable pub checkedSetRowHeight : Layout → Region → Float → RegionAnswer
+checkedSetRowHeight l g h = moved (l .«main_dir») (least (regionFault (l .«main_dir») g ∷ lengthFault h ∷ [])) g (setRowHeight l g h)
+
+-- ---- Region: the direction says which edge of its cursor is open
+unfoldable pub checkedExpandToIncludeRect : Direction → Region → Rect → RegionAnswer
+checkedExpandToIncludeRect d g r = moved d (least (regionFault d g ∷ rectFault r ∷ [])) g (expandToIncludeRect g r)
+
+unfoldable pub checkedExpandToIncludeX : Direction → Region → Float → RegionAnswer
+checkedExpandToIncludeX d g x = moved d (least (regionFault d g ∷ lengthFault x ∷ [])) g (expandToIncludeX g x)
+
+unfoldable pub checkedExpandToIncludeY : Direction → Region → Float → RegionAnswer
+checkedExpandToIncludeY d g y = moved d (least (regionFault d g ∷ lengthFault y ∷ [])) g (expandToIncludeY g y)

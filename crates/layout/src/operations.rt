@@ -1,0 +1,213 @@
+// The public calls, in layout.rs's order: each answers the least number that applies to its arguments or its answer, or what its rule gives.
+use crate::CursorAnswer;
+use crate::Direction;
+use crate::Layout;
+use crate::PosAnswer;
+use crate::RectAnswer;
+use crate::Region;
+use crate::RegionAnswer;
+use crate::SizeAnswer;
+use crate::available;
+use crate::cursors;
+use crate::faults::cursor_answer;
+use crate::faults::cursor_fault;
+use crate::faults::framed_rect;
+use crate::faults::moved_region;
+use crate::faults::placed_rect;
+use crate::faults::pos_answer;
+use crate::faults::rect_answer;
+use crate::faults::region_fault;
+use crate::faults::size_answer;
+use crate::faults::zero_region;
+use crate::frames;
+use crate::regions;
+use crate::widgets;
+use emath::Rect;
+use emath::Vec2;
+use emath::faults::length_fault;
+use emath::faults::lesser_number;
+use emath::faults::or_else;
+use emath::faults::outside_domain;
+use emath::faults::pair_fault;
+use emath::faults::rect_fault;
+use emath::faults::size_fault;
+ghost use mathlib.Core.Path.{_≡_};
+ghost use Rattle.layout.specs.Operations.{checkedAlignSizeWithinRect, checkedInitialCursor, checkedRegionFromMaxRect, checkedAvailableRectBeforeWrap, checkedAvailableSize, checkedAvailableFromCursorMaxRect, checkedNextFrame, checkedNextFrameIgnoreWrap, checkedJustifyAndAlign, checkedNextWidgetSpaceIgnoreWrapJustify, checkedNextWidgetPosition, checkedAdvanceCursor, checkedAdvanceAfterRects, checkedEndRow, checkedSetRowHeight, checkedExpandToIncludeRect, checkedExpandToIncludeX, checkedExpandToIncludeY};
+
+impl Region {
+    pub fn expand_to_include_rect(self, main_dir: Direction, rect: Rect) -> RegionAnswer
+        ensures { λ a. ⌜ a ≡ checkedExpandToIncludeRect «main_dir» self rect ⌝ }
+    {
+        let new = regions::expand_to_include_rect(self, rect);
+        let before = lesser_number(region_fault(main_dir, self), rect_fault(rect));
+        moved_region(main_dir, before, self, new)
+    }
+
+    pub fn expand_to_include_x(self, main_dir: Direction, x: f32) -> RegionAnswer
+        ensures { λ a. ⌜ a ≡ checkedExpandToIncludeX «main_dir» self x ⌝ }
+    {
+        let new = regions::expand_to_include_x(self, x);
+        let before = lesser_number(region_fault(main_dir, self), length_fault(x));
+        moved_region(main_dir, before, self, new)
+    }
+
+    pub fn expand_to_include_y(self, main_dir: Direction, y: f32) -> RegionAnswer
+        ensures { λ a. ⌜ a ≡ checkedExpandToIncludeY «main_dir» self y ⌝ }
+    {
+        let new = regions::expand_to_include_y(self, y);
+        let before = lesser_number(region_fault(main_dir, self), length_fault(y));
+        moved_region(main_dir, before, self, new)
+    }
+}
+
+impl Layout {
+    pub fn align_size_within_rect(self, size: Vec2, outer: Rect) -> RectAnswer
+        ensures { λ a. ⌜ a ≡ checkedAlignSizeWithinRect self size outer ⌝ }
+    {
+        let rect = widgets::align_size_within_rect(self, size, outer);
+        placed_rect(lesser_number(size_fault(size), rect_fault(outer)), rect)
+    }
+
+    pub fn initial_cursor(self, max_rect: Rect) -> RectAnswer
+        ensures { λ a. ⌜ a ≡ checkedInitialCursor self «max_rect» ⌝ }
+    {
+        let d = self.main_dir;
+        let cursor = available::initial_cursor(d, max_rect);
+        let after = outside_domain(cursor_fault(d, cursor));
+        rect_answer(or_else(rect_fault(max_rect), after), cursor)
+    }
+
+    pub fn region_from_max_rect(self, max_rect: Rect) -> RegionAnswer
+        ensures { λ a. ⌜ a ≡ checkedRegionFromMaxRect self «max_rect» ⌝ }
+    {
+        let d = self.main_dir;
+        let new = widgets::region_from_max_rect(self, max_rect);
+        moved_region(d, rect_fault(max_rect), zero_region(), new)
+    }
+
+    pub fn available_rect_before_wrap(self, region: Region) -> RectAnswer
+        ensures { λ a. ⌜ a ≡ checkedAvailableRectBeforeWrap self region ⌝ }
+    {
+        let d = self.main_dir;
+        let rect = available::available_rect_before_wrap(d, region);
+        placed_rect(region_fault(d, region), rect)
+    }
+
+    pub fn available_size(self, region: Region) -> SizeAnswer
+        ensures { λ a. ⌜ a ≡ checkedAvailableSize self region ⌝ }
+    {
+        let d = self.main_dir;
+        let size = available::available_size(self, region);
+        let after = outside_domain(pair_fault(size.x, size.y));
+        size_answer(or_else(region_fault(d, region), after), size)
+    }
+
+    pub fn available_from_cursor_max_rect(self, cursor: Rect, max_rect: Rect) -> RectAnswer
+        ensures { λ a. ⌜ a ≡ checkedAvailableFromCursorMaxRect self cursor «max_rect» ⌝ }
+    {
+        let d = self.main_dir;
+        let rect = available::available_from_cursor_max_rect(d, cursor, max_rect);
+        placed_rect(
+            lesser_number(cursor_fault(d, cursor), rect_fault(max_rect)),
+            rect,
+        )
+    }
+
+    pub fn next_frame(self, region: Region, child_size: Vec2, spacing: Vec2) -> RectAnswer
+        ensures { λ a. ⌜ a ≡ checkedNextFrame self region «child_size» spacing ⌝ }
+    {
+        let d = self.main_dir;
+        let frame = frames::next_frame(self, region, child_size, spacing);
+        let sizes = lesser_number(size_fault(child_size), pair_fault(spacing.x, spacing.y));
+        framed_rect(lesser_number(region_fault(d, region), sizes), frame)
+    }
+
+    pub fn next_frame_ignore_wrap(self, region: Region, child_size: Vec2) -> RectAnswer
+        ensures { λ a. ⌜ a ≡ checkedNextFrameIgnoreWrap self region «child_size» ⌝ }
+    {
+        let d = self.main_dir;
+        let frame = frames::next_frame_ignore_wrap(self, region, child_size);
+        framed_rect(
+            lesser_number(region_fault(d, region), size_fault(child_size)),
+            frame,
+        )
+    }
+
+    pub fn justify_and_align(self, frame: Rect, child_size: Vec2) -> RectAnswer
+        ensures { λ a. ⌜ a ≡ checkedJustifyAndAlign self frame «child_size» ⌝ }
+    {
+        let widget = widgets::justify_and_align(self, frame, child_size);
+        placed_rect(
+            lesser_number(rect_fault(frame), size_fault(child_size)),
+            widget,
+        )
+    }
+
+    pub fn next_widget_space_ignore_wrap_justify(self, region: Region, size: Vec2) -> RectAnswer
+        ensures { λ a. ⌜ a ≡ checkedNextWidgetSpaceIgnoreWrapJustify self region size ⌝ }
+    {
+        let d = self.main_dir;
+        let rect = widgets::next_widget_space_ignore_wrap_justify(self, region, size);
+        placed_rect(
+            lesser_number(region_fault(d, region), size_fault(size)),
+            rect,
+        )
+    }
+
+    pub fn next_widget_position(self, region: Region) -> PosAnswer
+        ensures { λ a. ⌜ a ≡ checkedNextWidgetPosition self region ⌝ }
+    {
+        let d = self.main_dir;
+        let pos = widgets::next_widget_position(self, region);
+        let after = outside_domain(pair_fault(pos.x, pos.y));
+        pos_answer(or_else(region_fault(d, region), after), pos)
+    }
+
+    pub fn advance_cursor(self, region: Region, amount: f32) -> RegionAnswer
+        ensures { λ a. ⌜ a ≡ checkedAdvanceCursor self region amount ⌝ }
+    {
+        let d = self.main_dir;
+        let new = cursors::advance_cursor(d, region, amount);
+        let before = lesser_number(region_fault(d, region), length_fault(amount));
+        moved_region(d, before, region, new)
+    }
+
+    pub fn advance_after_rects(
+        self,
+        cursor: Rect,
+        frame_rect: Rect,
+        widget_rect: Rect,
+        item_spacing: Vec2,
+    ) -> CursorAnswer
+        ensures { λ a. ⌜ a ≡ checkedAdvanceAfterRects self cursor «frame_rect» «widget_rect» «item_spacing» ⌝ }
+    {
+        let d = self.main_dir;
+        let new = cursors::advance_after_rects(self, cursor, frame_rect, widget_rect, item_spacing);
+        let rest = lesser_number(
+            rect_fault(widget_rect),
+            pair_fault(item_spacing.x, item_spacing.y),
+        );
+        let rects = lesser_number(rect_fault(frame_rect), rest);
+        let before = lesser_number(cursor_fault(d, cursor), rects);
+        let after = outside_domain(cursor_fault(d, new));
+        cursor_answer(or_else(before, after), cursor, new)
+    }
+
+    pub fn end_row(self, region: Region, spacing: Vec2) -> RegionAnswer
+        ensures { λ a. ⌜ a ≡ checkedEndRow self region spacing ⌝ }
+    {
+        let d = self.main_dir;
+        let new = cursors::end_row(self, region, spacing);
+        let before = lesser_number(region_fault(d, region), pair_fault(spacing.x, spacing.y));
+        moved_region(d, before, region, new)
+    }
+
+    pub fn set_row_height(self, region: Region, height: f32) -> RegionAnswer
+        ensures { λ a. ⌜ a ≡ checkedSetRowHeight self region height ⌝ }
+    {
+        let d = self.main_dir;
+        let new = cursors::set_row_height(self, region, height);
+        let before = lesser_number(region_fault(d, region), length_fault(height));
+        moved_region(d, before, region, new)
+    }
+}

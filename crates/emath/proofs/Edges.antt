@@ -37,21 +37,29 @@ pub lowest-is : (k : ℕ) → neg limit ≡ val k (negℤ (pos (most k)))
 lowest-is k = ap neg (limit-is k) ∙ val-neg k (pos (most k)) (omega (arith, pow-pos k))
 
 -- ---- within the limit, in steps
+pub within-low : (x : Float) → T (within x) → T (le (neg limit) x)
+unfolding within
+within-low x t = and-l (le (neg limit) x) (le x limit) t
+
+pub within-high : (x : Float) → T (within x) → T (le x limit)
+unfolding within
+within-high x t = and-r (le (neg limit) x) (le x limit) t
+
 small-limit : (k : ℕ) → k ≤ 7 → most k < 16777216
 small-limit k l = omega (arith, pow-mono {i = k} {j = 7} l)
 
 module _ (k : ℕ) (l : k ≤ 7) where
-  under : (z : ℤ) → Small z → le (val k z) limit ≡ leZ z (pos (most k))
-  under z Z = rw (limit-is k) (val-le k (omega arith) z (pos (most k)) Z (omega (arith, small-limit k l)))
+  pub below-limit : (z : ℤ) → Small z → le (val k z) limit ≡ leZ z (pos (most k))
+  below-limit z Z = rw (limit-is k) (val-le k (omega arith) z (pos (most k)) Z (omega (arith, small-limit k l)))
 
-  over : (z : ℤ) → Small z → le (neg limit) (val k z) ≡ leZ (negℤ (pos (most k))) z
-  over z Z = rw (lowest-is k) (val-le k (omega arith) (negℤ (pos (most k))) z (omega (arith, small-limit k l, more-neg (pos (most k)), less-neg (pos (most k)))) Z)
+  pub above-lowest : (z : ℤ) → Small z → le (neg limit) (val k z) ≡ leZ (negℤ (pos (most k))) z
+  above-lowest z Z = rw (lowest-is k) (val-le k (omega arith) (negℤ (pos (most k))) z (omega (arith, small-limit k l, more-neg (pos (most k)), less-neg (pos (most k)))) Z)
 
   pub within-steps : (z : ℤ) → Small z → T (within (val k z)) → natAbs z ≤ most k
   unfolding within
   within-steps z Z t =
-      let a : T (leZ (negℤ (pos (most k))) z) = rw (over z Z) at (and-l (le (neg limit) (val k z)) (le (val k z) limit) t) in
-      let b : T (leZ z (pos (most k))) = rw (under z Z) at (and-r (le (neg limit) (val k z)) (le (val k z) limit) t) in
+      let a : T (leZ (negℤ (pos (most k))) z) = rw (above-lowest z Z) at (and-l (le (neg limit) (val k z)) (le (val k z) limit) t) in
+      let b : T (leZ z (pos (most k))) = rw (below-limit z Z) at (and-r (le (neg limit) (val k z)) (le (val k z) limit) t) in
       let w : Within (most k) z = omega (arith, leZ→ z (pos (most k)) b, leZ→ (negℤ (pos (most k))) z a, more-neg (pos (most k)), less-neg (pos (most k))) in
       natAbs-within w
 
@@ -61,23 +69,23 @@ module _ (k : ℕ) (l : k ≤ 7) where
       let w : Within (most k) z = within-natAbs z h in
       let Z : Small z = omega (arith, small-limit k l) in
       and-i (le (neg limit) (val k z)) (le (val k z) limit)
-      (rw (over z Z) (→leZ (negℤ (pos (most k))) z (omega (arith, more-neg (pos (most k)), less-neg (pos (most k))))))
-      (rw (under z Z) (→leZ z (pos (most k)) (omega arith)))
+      (rw (above-lowest z Z) (→leZ (negℤ (pos (most k))) z (omega (arith, more-neg (pos (most k)), less-neg (pos (most k))))))
+      (rw (below-limit z Z) (→leZ z (pos (most k)) (omega arith)))
 
 pub edge-within : (k : ℕ) → k ≤ 7 → (x : Float) → Edge k x → T (within x)
 edge-within k l x e = rw (e .is) (steps-within k l (e .steps) (e .few))
 
 -- ---- what `roundF` comes to
-data WholeOf (w : Float) : Type 0 where
-  no-number : w ≡ nan → WholeOf w
-  endless : (s : Bool) → w ≡ inf s → WholeOf w
-  number : (s : Bool) (n : ℕ) → w ≡ val 0 (signed s n) → WholeOf w
+pub data WholeOf (w : Float) : Type 0 where
+  is-nan : w ≡ nan → WholeOf w
+  is-infinite : (s : Bool) → w ≡ inf s → WholeOf w
+  is-whole : (s : Bool) (n : ℕ) → w ≡ val 0 (signed s n) → WholeOf w
 
-whole-of : (y : Float) → WholeOf (roundF y)
+pub whole-of : (y : Float) → WholeOf (roundF y)
 unfolding roundF
-whole-of nan = no-number refl
-whole-of (inf s) = endless s refl
-whole-of (fin s m e) = number s (nearUp (m * up e) (down e)) (sign-val s (nearUp (m * up e) (down e)))
+whole-of nan = is-nan refl
+whole-of (inf s) = is-infinite s refl
+whole-of (fin s m e) = is-whole s (nearUp (m * up e) (down e)) (sign-val s (nearUp (m * up e) (down e)))
 
 -- ---- an opposite divided
 turned : (s : Bool) → unlike (not s) false ≡ not (unlike s false)
@@ -102,7 +110,7 @@ opposite (suc n) h = val-neg 0 (negsuc n) (omega arith)
 module _ (k : ℕ) (l : k ≤ 7) where
   power-out : T (le (val k (pos 16777216)) limit) → ⊥
   power-out t =
-      let u : T (leZ (pos 16777216) (pos (most k))) = rw (under k l (pos 16777216) (omega arith)) at t in
+      let u : T (leZ (pos 16777216) (pos (most k))) = rw (below-limit k l (pos 16777216) (omega arith)) at t in
       omega (arith, leZ→ (pos 16777216) (pos (most k)) u, small-limit k l)
 
   -- a number of 2 ^ 24 and more, divided
@@ -125,31 +133,22 @@ module _ (k : ℕ) (l : k ≤ 7) where
       let e : div binary32 (val 0 (signed s n)) (two k) ≡ val k (signed s n) = val-div 0 k (signed s n) S (omega arith) ∙ ap (λ (z : ℕ). val z (signed s n)) (add-zero k) in
       rw e (record { steps = signed s n; few = within-steps k l (signed s n) S (rw e at t); is = refl })
 
-  -- T (within x) gives both bounds
-  low : (x : Float) → T (within x) → T (le (neg limit) x)
-  unfolding within
-  low x t = and-l (le (neg limit) x) (le x limit) t
-
-  high : (x : Float) → T (within x) → T (le x limit)
-  unfolding within
-  high x t = and-r (le (neg limit) x) (le x limit) t
-
   whole-edge : (w : Float) → WholeOf w → T (within (div binary32 w (two k))) → Edge k (div binary32 w (two k))
-  whole-edge w (no-number e) t = absurd (nothing (rw e at (high (div binary32 w (two k)) t)))
+  whole-edge w (is-nan e) t = absurd (nothing (rw e at (within-high (div binary32 w (two k)) t)))
     where
       nothing : T (le (div binary32 nan (two k)) limit) → ⊥
       nothing t = unfold le lt eq div in t
-  whole-edge w (endless s e) t = absurd (nothing s (rw e at (low (div binary32 w (two k)) t)) (rw e at (high (div binary32 w (two k)) t)))
+  whole-edge w (is-infinite s e) t = absurd (nothing s (rw e at (within-low (div binary32 w (two k)) t)) (rw e at (within-high (div binary32 w (two k)) t)))
     where
       nothing : (s : Bool) → T (le (neg limit) (div binary32 (inf s) (two k))) → T (le (div binary32 (inf s) (two k)) limit) → ⊥
       nothing true t u = unfold le lt eq div neg ofBits in t
       nothing false t u = unfold le lt eq div ofBits in u
-  whole-edge w (number s n e) t = rw e (go s (leb n 16777216) (leb→le n 16777216) (nleb→lt n 16777216) (rw e at t))
+  whole-edge w (is-whole s n e) t = rw e (go s (leb n 16777216) (leb→le n 16777216) (nleb→lt n 16777216) (rw e at t))
     where
       go : (s : Bool) (c : Bool) → (T c → n ≤ 16777216) → (T (not c) → 16777216 < n) → T (within (div binary32 (val 0 (signed s n)) (two k))) → Edge k (div binary32 (val 0 (signed s n)) (two k))
       go s true y z t = small-edge s n (y tt) t
-      go false false y z t = let h : 16777216 < n = z tt in absurd (big-up n (omega arith) (high (div binary32 (val 0 (pos n)) (two k)) t))
-      go true false y z t = let h : 16777216 < n = z tt in absurd (big-down n (omega arith) (low (div binary32 (val 0 (negℤ (pos n))) (two k)) t))
+      go false false y z t = let h : 16777216 < n = z tt in absurd (big-up n (omega arith) (within-high (div binary32 (val 0 (pos n)) (two k)) t))
+      go true false y z t = let h : 16777216 < n = z tt in absurd (big-down n (omega arith) (within-low (div binary32 (val 0 (negℤ (pos n))) (two k)) t))
 
   -- ANY float that is rounded into the domain
   pub round-edge : (x : Float) → T (within (roundUi k x)) → Edge k (roundUi k x)
@@ -165,8 +164,8 @@ module _ (k : ℕ) (l : k ≤ 7) where
 
   pub round-within : (x : Float) → T (within x) → T (within (roundUi k x))
   round-within x t = unfold within in and-i (le (neg limit) (roundUi k x)) (le (roundUi k x) limit)
-      (rw lowest-whole at (round-keeps-order k (neg limit) x (low x t)))
-      (rw limit-whole at (round-keeps-order k x limit (high x t)))
+      (rw lowest-whole at (round-keeps-order k (neg limit) x (within-low x t)))
+      (rw limit-whole at (round-keeps-order k x limit (within-high x t)))
 
   pub within-edge : (x : Float) → T (within x) → Edge k (roundUi k x)
   within-edge x t = round-edge x (round-within x t)

@@ -11,7 +11,10 @@ pub mod MinMax
 pub mod NearUp
 pub mod Rounding
 pub mod NearestWhole
+pub mod Unique
 pub mod RoundOrder
 pub mod Edges
+pub mod Centres
+pub mod Sums
 pub mod Cases
 pub mod Refusals

@@ -112,7 +112,7 @@ fits-high s (suc m) j t =
     let d : Bool = ltb (suc m * 2 ^ j) (2 ^ 128 * 1) in
     (ltb→lt (suc m) (2 ^ 24) (and-r a b (and-l (a && b) true (and-l (a && b && true) d t))), ltb→lt (suc m * 2 ^ j) (2 ^ 128) (and-r (a && b && true) d t))
 
-own-whole : (s : Bool) (m j : ℕ) → T (fits binary32 (fin s m (pos j))) → round binary32 s (m * 2 ^ j) 1 ≡ fin s m (pos j)
+pub own-whole : (s : Bool) (m j : ℕ) → T (fits binary32 (fin s m (pos j))) → round binary32 s (m * 2 ^ j) 1 ≡ fin s m (pos j)
 own-whole s m j f =
     let g = fits-high s m j f in
     let e : m * 2 ^ (j + 149) ≡ m * 2 ^ j * 2 ^ 149 = ap (λ (z : ℕ). m * z) (pow-add 2 j 149) ∙ sym (mul-assoc m (2 ^ j) (2 ^ 149)) in

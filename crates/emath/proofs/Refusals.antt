@@ -10,9 +10,9 @@ use lib.Ieee.{Float, nan, inf, fin, binary32, ofBits, up, down, round, sum, add,
 use lib.Ieee.Fits.{down-pos}
 use lib.Ieee.Scale.{round-same}
 use Rattle.emath.specs.Rectangles.{zeroF}
-use Rattle.emath.specs.Domain.{finite, within, edgesOf}
-use Rattle.emath.specs.Refusals.{when, lesser, least, orElse, edgesFault}
-use Rattle.emath.proofs.Tests.{bools, not-lt}
+use Rattle.emath.specs.Domain.{finite, within, edgesOf, insideOut}
+use Rattle.emath.specs.Refusals.{when, lesser, least, orElse, edgesFault, rectFault, outside, frameFault}
+use Rattle.emath.proofs.Tests.{bools, not-lt, T-of}
 use Rattle.emath.specs.declared.Rect.{Rect}
 
 nought : (s : Bool) (c : ℕ) → 0 < c → round binary32 (s && false) 0 c ≡ fin false 0 (pos 0)
@@ -78,3 +78,35 @@ no-fault r h =
     let b = both (within (r .top)) (within (r .right) && within (r .bottom)) (a .1) in
     let d = both (within (r .right)) (within (r .bottom)) (b .1) in
     rw (a .0, b .0, d .0, d .1, within-finite (r .left) (a .0), within-finite (r .top) (b .0), within-finite (r .right) (d .0), within-finite (r .bottom) (d .1))
+
+-- ---- what no fault says
+pub outside-none : (n : ℕ) → outside n ≡ 0 → n ≡ 0
+unfolding outside
+outside-none zero h = refl
+outside-none (suc n) h = absurd (let z : 9 ≡ 0 = rw (some n) at h in omega arith)
+
+pub record AllWithin (r : Rect) : Type 0 where
+  pub left : T (within (r .left))
+  pub top : T (within (r .top))
+  pub right : T (within (r .right))
+  pub bottom : T (within (r .bottom))
+
+pub edges-within : (r : Rect) → edgesFault r ≡ 0 → AllWithin r
+edges-within r h =
+    let e : within (r .left) && (within (r .top) && (within (r .right) && within (r .bottom))) ≡ true = unfold edgesOf in edges-fit r h in
+    let a = both (within (r .left)) (within (r .top) && (within (r .right) && within (r .bottom))) e in
+    let b = both (within (r .top)) (within (r .right) && within (r .bottom)) (a .1) in
+    let d = both (within (r .right)) (within (r .bottom)) (b .1) in
+    record { left = T-of (a .0); top = T-of (b .0); right = T-of (d .0); bottom = T-of (d .1) }
+
+pub rect-none : (r : Rect) → rectFault r ≡ 0 → (edgesFault r ≡ 0) × (insideOut r ≡ false)
+unfolding rectFault least
+rect-none r h = let p = lesser-none (edgesFault r) (when (insideOut r) 6) h in (p .0, out (insideOut r) (p .1))
+  where
+    out : (b : Bool) → when b 6 ≡ 0 → b ≡ false
+    out true h = absurd (let z : _≡_ {A = ℕ} 6 0 = h in omega arith)
+    out false h = refl
+
+pub frame-none : (r : Rect) → frameFault r ≡ 0 → edgesFault r ≡ 0
+unfolding frameFault least
+frame-none r h = outside-none (edgesFault r) (lesser-none (outside (edgesFault r)) (when (insideOut r) 10) h .0)

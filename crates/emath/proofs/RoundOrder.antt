@@ -1,14 +1,14 @@
 -- Rounding keeps the order: for every step, whatever two floats are rounded. So it turns no rectangle inside out. Assumes nothing.
 use mathlib.Core.Path.{_≡_, refl, ap, _∙_}
-use Prim.Native.Nat.{ℕ, zero, suc, _*_, _^_, _<_}
+use Prim.Native.Nat.{ℕ, zero, suc, _*_, _^_, _<_, _+_}
 use native.Mathlib.Nat.{mul-pos}
 use native.Mathlib.Omega.{arith}
-use mathlib.Core.Bool.{Bool, true, false, not, _||_, true≢false}
+use mathlib.Core.Bool.{Bool, true, false, not, _||_, true≢false, Bool·beq}
 use lib.Dec.{T, le→leb}
 use lib.IntN.{ℤ, natAbs}
 use lib.Signed.{leZ}
 use lib.Pow.{pow-pos}
-use lib.Ieee.{Float, nan, inf, fin, binary32, up, down, round, lt, le, eq, mul, div, unlike}
+use lib.Ieee.{Float, nan, inf, fin, binary32, up, down, round, lt, le, eq, mul, div, unlike, sum, add}
 use lib.Ieee.Fits.{down-pos}
 use mathlib.Core.Logic.{_⊎_, inl, inr}
 use Rattle.emath.specs.Rectangles.{nearUp, roundF, roundBy, roundUi, roundRect}
@@ -140,6 +140,34 @@ whole-keeps = record {
       rw (whole s m e, whole t n d) (val-mono 0 (signed s (nearUp (m * up e) (down e))) (signed t (nearUp (n * up d) (down d)))
       (signed-le s t (nearUp (m * up e) (down e)) (nearUp (n * up d) (down d)) (near-before s t (m * up e) (down e) (n * up d) (down d) (down-pos e) (down-pos d) h)));
 }
+
+-- a number and itself
+double : Float → Float
+double x = add binary32 x x
+
+double-keeps : Keeps double
+unfolding double add sum
+double-keeps = record {
+  at-inf = λ (s : Bool). rw (same s);
+  at-fin = λ (s : Bool) (m : ℕ) (e : ℤ). rw (same s) (number s (round binary32 s (m * up e * down e + m * up e * down e) (down e * down e)) (sign-round binary32 s (m * up e * down e + m * up e * down e) (down e * down e)));
+  of-fin = λ (s : Bool) (m : ℕ) (e : ℤ) (t : Bool) (n : ℕ) (d : ℤ) (h : Before s (m * up e * down d) t (n * up d * down e)).
+      rw (same s, same t) (round-le s t (m * up e * down e + m * up e * down e) (down e * down e) (n * up d * down d + n * up d * down d) (down d * down d) (mul-pos (down-pos e) (down-pos e)) (mul-pos (down-pos d) (down-pos d))
+      (scale s (m * up e) (down e) t (n * up d) (down d) h));
+}
+  where
+    same : (s : Bool) → Bool·beq s s ≡ true
+    same true = refl
+    same false = refl
+
+    scale : (s : Bool) (M a : ℕ) (t : Bool) (N b : ℕ) → Before s (M * b) t (N * a) → Before s ((M * a + M * a) * (b * b)) t ((N * b + N * b) * (a * a))
+    scale s M a t N b h =
+        let x : M * b * (2 * a * b) ≡ (M * a + M * a) * (b * b) = omega arith in
+        let y : N * a * (2 * a * b) ≡ (N * b + N * b) * (a * a) = omega arith in
+        rw (← x, ← y) (before-times s (M * b) t (N * a) (2 * a * b) h)
+
+pub double-keeps-order : (x y : Float) → T (le x y) → T (le (add binary32 x x) (add binary32 y y))
+unfolding double
+double-keeps-order x y h = keeps double double-keeps x y h
 
 pub div-keeps-order : (k : ℕ) (x y : Float) → T (le x y) → T (le (div binary32 x (two k)) (div binary32 y (two k)))
 unfolding over

@@ -3,3 +3,4 @@ pub mod Layouts
 pub mod Rules
 pub mod Refusals
 pub mod Operations
+pub mod Steps

@@ -4,10 +4,10 @@ use Prim.Native.Nat.{ℕ}
 use mathlib.Core.List.{[], _∷_}
 use lib.Ieee.{Float}
 use Rattle.emath.specs.Refusals.{least, orElse, lengthFault, pairFault, sizeFault, edgesFault, rectFault, outside, frameFault}
+use Rattle.layout.specs.Rules.{expandToIncludeRect, expandToIncludeX, expandToIncludeY, alignSizeWithinRect, initialCursor, availableFromCursorMaxRect, availableRectBeforeWrap, availableSize, nextFrameIgnoreWrap, nextFrame, justifyAndAlign, nextWidgetSpaceIgnoreWrapJustify, nextWidgetPosition, regionFromMaxRect, advanceCursor, advanceAfterRects, endRow, setRowHeight}
+use Rattle.layout.specs.Refusals.{cursorFault, regionFault, zeroRegion, rectAnswer, posAnswer, sizeAnswer, regionAnswer, cursorAnswer}
 use Rattle.emath.specs.declared.Rect.{Rect}
 use Rattle.emath.specs.declared.Vec2.{Vec2}
-use Rattle.layout.specs.Rules.{alignSizeWithinRect, initialCursor, regionFromMaxRect, availableRectBeforeWrap, availableSize, availableFromCursorMaxRect, nextFrame, nextFrameIgnoreWrap, justifyAndAlign, nextWidgetSpaceIgnoreWrapJustify, nextWidgetPosition, advanceCursor, advanceAfterRects, endRow, setRowHeight, expandToIncludeRect, expandToIncludeX, expandToIncludeY}
-use Rattle.layout.specs.Refusals.{cursorFault, regionFault, zeroRegion, rectAnswer, posAnswer, sizeAnswer, regionAnswer, cursorAnswer}
 use Rattle.layout.specs.declared.Direction.{Direction}
 use Rattle.layout.specs.declared.Layout.{Layout}
 use Rattle.layout.specs.declared.Region.{Region}

@@ -6,10 +6,10 @@ use lib.Dec.{eqb}
 use lib.Ieee.{Float, neg, eq}
 use Rattle.emath.specs.Rectangles.{zeroF}
 use Rattle.emath.specs.Refusals.{least, edgesFault, rectFault}
+use Rattle.layout.specs.Rules.{infinity, zeroVec, setLeft, setTop, setRight, setBottom}
 use Rattle.emath.specs.declared.Rect.{Rect}
 use Rattle.emath.specs.declared.Vec2.{Vec2}
 use Rattle.emath.specs.declared.Pos2.{Pos2}
-use Rattle.layout.specs.Rules.{infinity, zeroVec, setLeft, setTop, setRight, setBottom}
 use Rattle.layout.specs.declared.Direction.{Direction}
 use Rattle.layout.specs.declared.Direction.the-variants.{LeftToRight, RightToLeft, TopDown, BottomUp}
 use Rattle.layout.specs.declared.Region.{Region}

@@ -1,15 +1,15 @@
 -- layout.rs, "Region" and "Doing layout", function by function, before anything is refused. Where a call rounds, the step is 1 / 2 ^ k point.
 use Prim.Native.Nat.{ℕ}
-use mathlib.Core.Bool.{Bool, true, false, cond, not, _&&_, _||_}
+use mathlib.Core.Bool.{Bool, false, cond, not, _&&_, _||_}
 use lib.Ieee.{Float, nan, inf, binary32, neg, add, sub, lt}
 use Rattle.emath.specs.Rectangles.{zeroF, oneF, minF, maxF, atLeast, width, height, sizeOf, center, midpoint, fromCenterSize, translate, intersect, union, extendWithX, extendWithY, intersects, shrink, alignWithin, withX, withY, roundRect}
+use Rattle.layout.specs.Layouts.{isHorizontal, isCenter, horizontalAlign, verticalAlign, align2, horizontalJustify, verticalJustify}
 use Rattle.emath.specs.declared.Rect.{Rect}
 use Rattle.emath.specs.declared.Vec2.{Vec2}
 use Rattle.emath.specs.declared.Pos2.{Pos2}
 use Rattle.emath.specs.declared.Rangef.{Rangef}
 use Rattle.emath.specs.declared.Align2.{Align2}
 use Rattle.emath.specs.declared.Align.the-variants.{Min, Max}
-use Rattle.layout.specs.Layouts.{isHorizontal, isCenter, horizontalAlign, verticalAlign, align2, horizontalJustify, verticalJustify}
 use Rattle.layout.specs.declared.Direction.{Direction}
 use Rattle.layout.specs.declared.Direction.the-variants.{LeftToRight, RightToLeft, TopDown, BottomUp}
 use Rattle.layout.specs.declared.Layout.{Layout}

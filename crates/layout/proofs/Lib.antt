@@ -1,0 +1,6 @@
+-- The laws, in the order of the argument. Layers above cite them as Rattle.layout.proofs.NAME.
+pub mod Answers
+pub mod WholeFrames
+pub mod WholeRegions
+pub mod WholeCursors
+pub mod Seeds

@@ -1,6 +1,7 @@
 // The entry points of crate emath, one for each public operation: tests only.
 use crate::align_of;
 use crate::align2_of;
+use crate::code_of;
 use crate::put_pos2;
 use crate::put_range;
 use crate::put_rect;
@@ -41,6 +42,11 @@ pub extern "C" fn emath_num_fast_midpoint(a: f32, b: f32) -> f32 {
 #[no_mangle]
 pub extern "C" fn emath_num_infinity() -> f32 {
     emath::num::infinity()
+}
+
+#[no_mangle]
+pub extern "C" fn emath_num_nan() -> f32 {
+    emath::num::nan()
 }
 
 #[no_mangle]
@@ -179,6 +185,18 @@ pub extern "C" fn emath_left_center_size_within_rect(
 ) {
     let a = Align2::LEFT_CENTER;
     put_rect(out, a.align_size_within_rect(Vec2 { x, y }, rect_of(frame)));
+}
+
+#[no_mangle]
+pub extern "C" fn emath_align2_with_x(across: u8, down: u8, x: u8) -> u8 {
+    let a = align2_of(across, down);
+    code_of(a.with_x(align_of(x)))
+}
+
+#[no_mangle]
+pub extern "C" fn emath_align2_with_y(across: u8, down: u8, y: u8) -> u8 {
+    let a = align2_of(across, down);
+    code_of(a.with_y(align_of(y)))
 }
 
 // LEFT, TOP, RIGHT and BOTTOM, as the sizes they align.

@@ -1,6 +1,8 @@
 // Entry points for the comparison with the Rust: tests only.
 // Each crate has its own file; what they share is here.
 mod emath_ops;
+mod layout_fields;
+mod layout_ops;
 
 use emath::Align;
 use emath::Align2;
@@ -8,6 +10,13 @@ use emath::Pos2;
 use emath::Rangef;
 use emath::Rect;
 use emath::Vec2;
+use layout::Direction;
+use layout::Layout;
+use layout::PosAnswer;
+use layout::RectAnswer;
+use layout::Region;
+use layout::RegionAnswer;
+use layout::SizeAnswer;
 
 fn align_of(n: u8) -> Align {
     match n {
@@ -33,6 +42,10 @@ fn rect_of(v: &[f32; 4]) -> Rect {
     }
 }
 
+fn vec2_of(v: &[f32; 2]) -> Vec2 {
+    Vec2 { x: v[0], y: v[1] }
+}
+
 fn put_rect(out: &mut [f32; 4], r: Rect) {
     out[0] = r.left;
     out[1] = r.top;
@@ -53,4 +66,162 @@ fn put_pos2(out: &mut [f32; 2], p: Pos2) {
 fn put_range(out: &mut [f32; 2], r: Rangef) {
     out[0] = r.min;
     out[1] = r.max;
+}
+
+fn number_of_align(a: Align) -> u8 {
+    match a {
+        Align::Min => 0,
+        Align::Center => 1,
+        Align::Max => 2,
+    }
+}
+
+// Its two aligns, as 3 times the one across and the one down.
+fn code_of(a: Align2) -> u8 {
+    let across = a.x;
+    let down = a.y;
+    match across {
+        Align::Min => match down {
+            Align::Min => 0,
+            Align::Center => 1,
+            Align::Max => 2,
+        },
+        Align::Center => match down {
+            Align::Min => 3,
+            Align::Center => 4,
+            Align::Max => 5,
+        },
+        Align::Max => match down {
+            Align::Min => 6,
+            Align::Center => 7,
+            Align::Max => 8,
+        },
+    }
+}
+
+fn direction_of(n: u8) -> Direction {
+    match n {
+        0 => Direction::LeftToRight,
+        1 => Direction::RightToLeft,
+        2 => Direction::TopDown,
+        _ => Direction::BottomUp,
+    }
+}
+
+fn number_of_direction(d: Direction) -> u8 {
+    match d {
+        Direction::LeftToRight => 0,
+        Direction::RightToLeft => 1,
+        Direction::TopDown => 2,
+        Direction::BottomUp => 3,
+    }
+}
+
+fn number_of_flag(b: bool) -> u8 {
+    if b { 1 } else { 0 }
+}
+
+// The six fields in document 01's order.
+fn layout_of(v: &[u8; 6]) -> Layout {
+    Layout {
+        main_dir: direction_of(v[0]),
+        main_wrap: v[1] != 0,
+        main_align: align_of(v[2]),
+        main_justify: v[3] != 0,
+        cross_align: align_of(v[4]),
+        cross_justify: v[5] != 0,
+    }
+}
+
+fn put_layout(out: &mut [u8; 6], l: Layout) {
+    let main_dir = l.main_dir;
+    let main_align = l.main_align;
+    let cross_align = l.cross_align;
+    out[0] = number_of_direction(main_dir);
+    out[1] = number_of_flag(l.main_wrap);
+    out[2] = number_of_align(main_align);
+    out[3] = number_of_flag(l.main_justify);
+    out[4] = number_of_align(cross_align);
+    out[5] = number_of_flag(l.cross_justify);
+}
+
+// min_rect, max_rect, cursor.
+fn region_of(v: &[f32; 12]) -> Region {
+    Region {
+        min_rect: Rect {
+            left: v[0],
+            top: v[1],
+            right: v[2],
+            bottom: v[3],
+        },
+        max_rect: Rect {
+            left: v[4],
+            top: v[5],
+            right: v[6],
+            bottom: v[7],
+        },
+        cursor: Rect {
+            left: v[8],
+            top: v[9],
+            right: v[10],
+            bottom: v[11],
+        },
+    }
+}
+
+// An answer's number; what it carries is written, as document 01 has it: all zero where a rectangle, position or size is refused.
+fn answer_rect(out: &mut [f32; 4], a: RectAnswer) -> u8 {
+    match a {
+        RectAnswer::Placed(r) => {
+            put_rect(out, r);
+            0
+        }
+        RectAnswer::Refused(n) => {
+            put_rect(out, Rect::ZERO);
+            n
+        }
+    }
+}
+
+fn answer_pos(out: &mut [f32; 2], a: PosAnswer) -> u8 {
+    match a {
+        PosAnswer::Found(p) => {
+            put_pos2(out, p);
+            0
+        }
+        PosAnswer::Refused(n) => {
+            put_pos2(out, Pos2::ZERO);
+            n
+        }
+    }
+}
+
+fn answer_size(out: &mut [f32; 2], a: SizeAnswer) -> u8 {
+    match a {
+        SizeAnswer::Measured(v) => {
+            put_vec2(out, v);
+            0
+        }
+        SizeAnswer::Refused(n) => {
+            put_vec2(out, Vec2::ZERO);
+            n
+        }
+    }
+}
+
+fn answer_region(out: &mut [f32; 12], a: RegionAnswer) -> u8 {
+    let g = a.region;
+    out[0] = g.min_rect.left;
+    out[1] = g.min_rect.top;
+    out[2] = g.min_rect.right;
+    out[3] = g.min_rect.bottom;
+    out[4] = g.max_rect.left;
+    out[5] = g.max_rect.top;
+    out[6] = g.max_rect.right;
+    out[7] = g.max_rect.bottom;
+    out[8] = g.cursor.left;
+    out[9] = g.cursor.top;
+    out[10] = g.cursor.right;
+    out[11] = g.cursor.bottom;
+    a.number
 }

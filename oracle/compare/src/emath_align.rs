@@ -7,7 +7,7 @@ use crate::probe::{self, written};
 use crate::tally::Tally;
 use crate::values::{self, Edges, Values};
 
-fn align(n: u8) -> Align {
+pub fn align(n: u8) -> Align {
     [Align::Min, Align::Center, Align::Max][usize::from(n)]
 }
 
@@ -34,8 +34,21 @@ fn rect_to_align(v: &mut Values) -> (Edges, [f32; 2]) {
     (r, [v.size_for(r[0], r[2]), v.size_for(r[1], r[3])])
 }
 
+/// Every two aligns, and one to put in.
+fn aligns() -> impl Iterator<Item = (u8, u8, u8)> {
+    (0..27).map(|n| (n / 9, n / 3 % 3, n % 3))
+}
+
+/// The entry points' code for two aligns: 3 times the one across, and the one down.
+pub fn code(a: Align2) -> u8 {
+    let mut codes = 0..9;
+    let found = codes.find(|&n| Align2::new(align(n / 3), align(n % 3)) == a);
+    found.unwrap_or(u8::MAX)
+}
+
 pub fn compare(t: &mut Tally) {
     alignment(t);
+    parts(t);
     rounding(t);
 }
 
@@ -79,6 +92,21 @@ fn alignment(t: &mut Tally) {
         rect_to_align,
         |&(ref r, [x, y])| written(|o| probe::emath_left_center_size_within_rect(x, y, r, o)),
         |&(ref r, [x, y])| edges(Align2::LEFT_CENTER.align_size_within_rect(vec2(x, y), rect(r))),
+    );
+}
+
+fn parts(t: &mut Tally) {
+    t.each(
+        "Align2::with_x",
+        aligns(),
+        |&(across, down, x)| probe::emath_align2_with_x(across, down, x),
+        |&(across, down, x)| code(Align2::new(align(across), align(down)).with_x(align(x))),
+    );
+    t.each(
+        "Align2::with_y",
+        aligns(),
+        |&(across, down, y)| probe::emath_align2_with_y(across, down, y),
+        |&(across, down, y)| code(Align2::new(align(across), align(down)).with_y(align(y))),
     );
 }
 

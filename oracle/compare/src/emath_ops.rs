@@ -82,6 +82,12 @@ fn numbers(t: &mut Tally) {
         |()| probe::emath_num_infinity(),
         |()| f32::INFINITY,
     );
+    t.each(
+        "num::nan",
+        std::iter::once(()),
+        |()| probe::emath_num_nan(),
+        |()| f32::NAN,
+    );
     t.drawn(
         "num::is_infinite",
         100,

@@ -34,7 +34,7 @@ pub fn least(numbers: &[u8]) -> u8 {
 /// The table's conditions that a value of this crate can meet, each with its number.
 fn turned_back(conditions: &[(u8, bool)]) -> u8 {
     let applying = conditions.iter().filter(|(_, applies)| *applies);
-    least(&applying.map(|&(number, _)| number).collect::<Vec<_>>())
+    applying.map(|&(number, _)| number).min().unwrap_or(0)
 }
 
 /// 4: "NaN, or infinity outside the exceptions".
@@ -61,6 +61,43 @@ pub fn of_sizes(sizes: &[f32]) -> u8 {
 /// 6: "inside-out frame, outer, widget, min_rect or max_rect".
 pub fn of_rect(rect: &Edges) -> u8 {
     turned_back(&[four(rect), five(rect), (6, is_inside_out(rect))])
+}
+
+/// "the cursor's open edge (direction 0 right, 1 left, 2 bottom, 3 top) may be infinite outward":
+/// its place among the edges, and that infinity.
+pub const OPEN: [(usize, f32); 4] = [
+    (2, f32::INFINITY),
+    (0, f32::NEG_INFINITY),
+    (3, f32::INFINITY),
+    (1, f32::NEG_INFINITY),
+];
+
+/// Of a cursor, which may be inside out.
+pub fn of_cursor(direction: u8, cursor: &Edges) -> u8 {
+    let (open, outward) = OPEN[usize::from(direction)];
+    let mut asked = *cursor;
+    if asked[open] == outward {
+        asked[open] = 0.0;
+    }
+    of_lengths(&asked)
+}
+
+/// min_rect, max_rect or the cursor of a region's twelve edges.
+pub fn rect_of(state: &[f32; 12], n: usize) -> Edges {
+    [0, 1, 2, 3].map(|edge| state[4 * n + edge])
+}
+
+/// Of a region's three: "min_rect and max_rect are not inside out; a cursor may be."
+pub fn of_region(direction: u8, state: &[f32; 12]) -> [u8; 3] {
+    [
+        of_rect(&rect_of(state, 0)),
+        of_rect(&rect_of(state, 1)),
+        of_cursor(direction, &rect_of(state, 2)),
+    ]
+}
+
+pub fn is_state(direction: u8, state: &[f32; 12]) -> bool {
+    of_region(direction, state) == [0; 3]
 }
 
 /// 9: "an answer or new state outside the domain".

@@ -1,9 +1,16 @@
-//! Compares the entry points of crates/probe with the Rust stand-ins and with document 01's table.
+//! Compares the entry points of crates/probe with layout.rs, with the Rust stand-ins and with
+//! document 01's table.
 
+// Without layout.rs some of what the comparisons share has no use.
+#![cfg_attr(not(feature = "layout"), allow(dead_code))]
+
+mod answers;
 mod emath_align;
 mod emath_domain;
 mod emath_ops;
 mod faults;
+#[cfg(feature = "layout")]
+mod layout;
 mod probe;
 mod rng;
 mod tally;
@@ -17,7 +24,11 @@ use tally::Tally;
 const SEED: u64 = 1;
 
 /// A run that compares fewer has gone wrong, whatever it found.
-const FEWEST: u64 = 2_000_000;
+const FEWEST: u64 = if cfg!(feature = "layout") {
+    20_000_000
+} else {
+    2_000_000
+};
 
 /// `--seed N` and `--times K`.
 fn arguments() -> Result<(u64, u64), String> {
@@ -47,11 +58,16 @@ fn main() -> ExitCode {
     emath_ops::compare(&mut tally);
     emath_align::compare(&mut tally);
     emath_domain::compare(&mut tally);
+    #[cfg(feature = "layout")]
+    layout::compare(&mut tally);
     let Tally {
-        cases, differences, ..
+        cases,
+        differences,
+        lacks,
+        ..
     } = tally;
     println!("compare: {cases} cases, {differences} differences");
-    if differences == 0 && cases >= FEWEST {
+    if differences == 0 && lacks == 0 && cases >= FEWEST {
         ExitCode::SUCCESS
     } else {
         ExitCode::FAILURE

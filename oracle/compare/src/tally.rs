@@ -54,6 +54,19 @@ impl Shown for () {
     }
 }
 
+/// Numbers, as a layout's fields.
+impl<const N: usize> Shown for [u8; N] {
+    fn show(&self) -> String {
+        format!("{self:?}")
+    }
+}
+
+impl<const N: usize> Same for [u8; N] {
+    fn same(&self, other: &Self) -> bool {
+        self == other
+    }
+}
+
 impl<const N: usize> Shown for [f32; N] {
     fn show(&self) -> String {
         format!("[{}]", self.map(|x| x.show()).join(", "))
@@ -78,11 +91,37 @@ impl<A: Shown, B: Shown, C: Shown> Shown for (A, B, C) {
     }
 }
 
+/// The answer of a call that can be turned back: its number, and what it carries.
+pub struct Answer<const N: usize> {
+    pub number: u8,
+    pub value: [f32; N],
+}
+
+impl<const N: usize> Shown for Answer<N> {
+    fn show(&self) -> String {
+        format!("number {}, {}", self.number, self.value.show())
+    }
+}
+
+/// After a refusal the state is "as given", so every bit counts.
+impl<const N: usize> Same for Answer<N> {
+    fn same(&self, other: &Self) -> bool {
+        let values = if self.number == 0 {
+            self.value.same(&other.value)
+        } else {
+            self.value.map(f32::to_bits) == other.value.map(f32::to_bits)
+        };
+        self.number == other.number && values
+    }
+}
+
 pub struct Tally {
     pub cases: u64,
     pub differences: u64,
+    /// What the run should have met and did not.
+    pub lacks: u64,
     pub times: u64,
-    seed: u64,
+    pub seed: u64,
 }
 
 impl Tally {
@@ -90,9 +129,15 @@ impl Tally {
         Self {
             cases: 0,
             differences: 0,
+            lacks: 0,
             times,
             seed,
         }
+    }
+
+    pub fn lacking(&mut self, what: &str) {
+        println!("lacking: {what}");
+        self.lacks += 1;
     }
 
     /// Compares on drawn arguments: `thousands` of them in a run of `--times 1`.

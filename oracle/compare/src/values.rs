@@ -4,10 +4,16 @@ use crate::rng::Rng;
 
 pub type Edges = [f32; 4];
 
+/// A layout's six fields, as document 01 orders and numbers them.
+pub type Fields = [u8; 6];
+
+/// A region's edges: those of min_rect, max_rect and the cursor.
+pub type State = [f32; 12];
+
 /// Document 01's domain: "magnitude at most 65,536 points (2,097,152 ticks)".
-const LIMIT: f32 = 65_536.0;
-const LIMIT_TICKS: i32 = 2_097_152;
-const TICKS_PER_POINT: f32 = 32.0;
+pub const LIMIT: f32 = 65_536.0;
+pub const LIMIT_TICKS: i32 = 2_097_152;
+pub const TICKS_PER_POINT: f32 = 32.0;
 
 const SPECIALS: [f32; 16] = [
     0.0,
@@ -42,7 +48,7 @@ const TURNS: [f32; 9] = [
 ];
 
 pub struct Values {
-    rng: Rng,
+    pub rng: Rng,
     /// Only numbers in and about the domain: else nearly every case of many arguments has a NaN.
     tame: bool,
 }
@@ -62,7 +68,7 @@ impl Values {
     }
 
     /// x, or a float right beside it.
-    fn beside(&mut self, x: f32) -> f32 {
+    pub fn beside(&mut self, x: f32) -> f32 {
         match self.rng.below(4) {
             0 => x.next_up(),
             1 => x.next_down(),
@@ -70,16 +76,16 @@ impl Values {
         }
     }
 
-    fn either_sign(&mut self, x: f32) -> f32 {
+    pub fn either_sign(&mut self, x: f32) -> f32 {
         if self.rng.one_in(2) { x } else { -x }
     }
 
-    fn ticks(&mut self, most: i32) -> f32 {
+    pub fn ticks(&mut self, most: i32) -> f32 {
         self.rng.about_zero(most) as f32 / TICKS_PER_POINT
     }
 
     /// Half, quarter and eighth ticks, and the floats beside them.
-    fn tick_part(&mut self) -> f32 {
+    pub fn tick_part(&mut self) -> f32 {
         let most = self.rng.pick(&[64, 4_096, LIMIT_TICKS]);
         let parts = self.rng.pick(&[2.0, 4.0, 8.0]);
         let x = self.rng.about_zero(most) as f32 / (TICKS_PER_POINT * parts);
@@ -87,7 +93,7 @@ impl Values {
     }
 
     /// A random significand, near the size of layouts.
-    fn middling(&mut self) -> f32 {
+    pub fn middling(&mut self) -> f32 {
         let exponent = 127 - 12 + self.rng.below(30);
         f32::from_bits(self.rng.bits() & 0x807f_ffff | exponent << 23)
     }

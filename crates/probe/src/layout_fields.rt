@@ -1,0 +1,169 @@
+// The entry points of crate layout's constructors, builders and inspectors: tests only.
+use crate::align_of;
+use crate::code_of;
+use crate::direction_of;
+use crate::layout_of;
+use crate::number_of_align;
+use crate::number_of_direction;
+use crate::put_layout;
+use layout::Layout;
+
+#[no_mangle]
+pub extern "C" fn layout_default(out: &mut [u8; 6]) {
+    put_layout(out, Layout::default());
+}
+
+#[no_mangle]
+pub extern "C" fn layout_left_to_right(valign: u8, out: &mut [u8; 6]) {
+    put_layout(out, Layout::left_to_right(align_of(valign)));
+}
+
+#[no_mangle]
+pub extern "C" fn layout_right_to_left(valign: u8, out: &mut [u8; 6]) {
+    put_layout(out, Layout::right_to_left(align_of(valign)));
+}
+
+#[no_mangle]
+pub extern "C" fn layout_top_down(halign: u8, out: &mut [u8; 6]) {
+    put_layout(out, Layout::top_down(align_of(halign)));
+}
+
+#[no_mangle]
+pub extern "C" fn layout_top_down_justified(halign: u8, out: &mut [u8; 6]) {
+    put_layout(out, Layout::top_down_justified(align_of(halign)));
+}
+
+#[no_mangle]
+pub extern "C" fn layout_bottom_up(halign: u8, out: &mut [u8; 6]) {
+    put_layout(out, Layout::bottom_up(align_of(halign)));
+}
+
+#[no_mangle]
+pub extern "C" fn layout_from_main_dir_and_cross_align(
+    main_dir: u8,
+    cross_align: u8,
+    out: &mut [u8; 6],
+) {
+    let d = direction_of(main_dir);
+    put_layout(
+        out,
+        Layout::from_main_dir_and_cross_align(d, align_of(cross_align)),
+    );
+}
+
+#[no_mangle]
+pub extern "C" fn layout_centered_and_justified(main_dir: u8, out: &mut [u8; 6]) {
+    put_layout(out, Layout::centered_and_justified(direction_of(main_dir)));
+}
+
+#[no_mangle]
+pub extern "C" fn layout_with_main_wrap(layout: &[u8; 6], main_wrap: u8, out: &mut [u8; 6]) {
+    put_layout(out, layout_of(layout).with_main_wrap(main_wrap != 0));
+}
+
+#[no_mangle]
+pub extern "C" fn layout_with_main_align(layout: &[u8; 6], main_align: u8, out: &mut [u8; 6]) {
+    put_layout(out, layout_of(layout).with_main_align(align_of(main_align)));
+}
+
+#[no_mangle]
+pub extern "C" fn layout_with_cross_align(layout: &[u8; 6], cross_align: u8, out: &mut [u8; 6]) {
+    put_layout(
+        out,
+        layout_of(layout).with_cross_align(align_of(cross_align)),
+    );
+}
+
+#[no_mangle]
+pub extern "C" fn layout_with_main_justify(layout: &[u8; 6], main_justify: u8, out: &mut [u8; 6]) {
+    put_layout(out, layout_of(layout).with_main_justify(main_justify != 0));
+}
+
+#[no_mangle]
+pub extern "C" fn layout_with_cross_justify(
+    layout: &[u8; 6],
+    cross_justify: u8,
+    out: &mut [u8; 6],
+) {
+    put_layout(
+        out,
+        layout_of(layout).with_cross_justify(cross_justify != 0),
+    );
+}
+
+#[no_mangle]
+pub extern "C" fn layout_main_dir(layout: &[u8; 6]) -> u8 {
+    number_of_direction(layout_of(layout).main_dir())
+}
+
+#[no_mangle]
+pub extern "C" fn layout_main_wrap(layout: &[u8; 6]) -> bool {
+    layout_of(layout).main_wrap()
+}
+
+#[no_mangle]
+pub extern "C" fn layout_cross_justify(layout: &[u8; 6]) -> bool {
+    layout_of(layout).cross_justify()
+}
+
+#[no_mangle]
+pub extern "C" fn layout_is_horizontal(layout: &[u8; 6]) -> bool {
+    layout_of(layout).is_horizontal()
+}
+
+#[no_mangle]
+pub extern "C" fn layout_is_vertical(layout: &[u8; 6]) -> bool {
+    layout_of(layout).is_vertical()
+}
+
+#[no_mangle]
+pub extern "C" fn layout_prefer_right_to_left(layout: &[u8; 6]) -> bool {
+    layout_of(layout).prefer_right_to_left()
+}
+
+#[no_mangle]
+pub extern "C" fn layout_horizontal_justify(layout: &[u8; 6]) -> bool {
+    layout_of(layout).horizontal_justify()
+}
+
+#[no_mangle]
+pub extern "C" fn layout_vertical_justify(layout: &[u8; 6]) -> bool {
+    layout_of(layout).vertical_justify()
+}
+
+#[no_mangle]
+pub extern "C" fn layout_cross_align(layout: &[u8; 6]) -> u8 {
+    number_of_align(layout_of(layout).cross_align())
+}
+
+#[no_mangle]
+pub extern "C" fn layout_horizontal_placement(layout: &[u8; 6]) -> u8 {
+    number_of_align(layout_of(layout).horizontal_placement())
+}
+
+#[no_mangle]
+pub extern "C" fn layout_horizontal_align(layout: &[u8; 6]) -> u8 {
+    number_of_align(layout_of(layout).horizontal_align())
+}
+
+#[no_mangle]
+pub extern "C" fn layout_vertical_align(layout: &[u8; 6]) -> u8 {
+    number_of_align(layout_of(layout).vertical_align())
+}
+
+#[no_mangle]
+pub extern "C" fn layout_align2(layout: &[u8; 6]) -> u8 {
+    code_of(layout_of(layout).align2())
+}
+
+#[no_mangle]
+pub extern "C" fn layout_direction_is_horizontal(main_dir: u8) -> bool {
+    let d = direction_of(main_dir);
+    d.is_horizontal()
+}
+
+#[no_mangle]
+pub extern "C" fn layout_direction_is_vertical(main_dir: u8) -> bool {
+    let d = direction_of(main_dir);
+    d.is_vertical()
+}

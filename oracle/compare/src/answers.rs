@@ -1,0 +1,127 @@
+//! Calls that can be turned back: what document 01 expects of each, and how often it happened.
+
+use std::cell::Cell;
+
+use crate::faults;
+use crate::rng::Rng;
+use crate::tally::{Answer, Shown, Tally};
+use crate::values::Values;
+
+/// What document 01 makes of a call.
+pub struct Expected<const N: usize> {
+    /// The number of each argument, a region's three apart; 0 where there is no more.
+    arguments: [u8; 5],
+    /// The number of what the Rust answers, 9 or 10, or 0.
+    answer: u8,
+    /// What the Rust answers.
+    value: [f32; N],
+    /// "an all-zero rectangle, position or size, and the state as given".
+    refused: [f32; N],
+}
+
+impl<const N: usize> Expected<N> {
+    /// A call that makes a rectangle, a position, a size or a first state.
+    pub fn made(numbers: &[u8], answer: u8, value: [f32; N]) -> Self {
+        Self::changed(numbers, answer, value, [0.0; N])
+    }
+
+    /// A call that changes the state it is given.
+    pub fn changed(numbers: &[u8], answer: u8, value: [f32; N], given: [f32; N]) -> Self {
+        let mut arguments = [0; 5];
+        arguments[..numbers.len()].copy_from_slice(numbers);
+        Self {
+            arguments,
+            answer,
+            value,
+            refused: given,
+        }
+    }
+
+    /// Arguments first, "in rising order"; the answer is looked at only if they have no fault.
+    pub fn number(&self) -> u8 {
+        match faults::least(&self.arguments) {
+            0 => self.answer,
+            number => number,
+        }
+    }
+
+    fn answer(&self) -> Answer<N> {
+        let number = self.number();
+        let value = if number == 0 {
+            self.value
+        } else {
+            self.refused
+        };
+        Answer { number, value }
+    }
+
+    /// Two arguments that have different faults: here the order shows.
+    fn is_mixed(&self) -> bool {
+        let least = faults::least(&self.arguments);
+        self.arguments.iter().any(|&n| n != 0 && n != least)
+    }
+}
+
+/// The calls of one operation, by number; 0 is for the accepted.
+#[derive(Default)]
+struct Counts {
+    numbers: [Cell<u64>; 11],
+    mixed: Cell<u64>,
+}
+
+impl Counts {
+    fn note<const N: usize>(&self, expected: &Expected<N>) {
+        let count = &self.numbers[usize::from(expected.number())];
+        count.set(count.get() + 1);
+        if expected.is_mixed() {
+            self.mixed.set(self.mixed.get() + 1);
+        }
+    }
+
+    fn show(&self) -> String {
+        let counted = |n: usize| format!("{n}: {}", self.numbers[n].get());
+        let refused = [4, 5, 6, 9, 10].map(counted).join(", ");
+        let (accepted, mixed) = (self.numbers[0].get(), self.mixed.get());
+        format!("  accepted {accepted}; refused {refused}; two faults at once {mixed}")
+    }
+}
+
+/// One operation: its name, the thousands of calls in a run of `--times 1`, and the numbers that
+/// have to turn up among them.
+pub struct Operation<'a> {
+    pub name: &'a str,
+    pub thousands: u64,
+    pub numbers: &'a [usize],
+}
+
+impl Tally {
+    /// Compares on drawn arguments, and fails where fewer than a third of the calls are accepted or
+    /// a number does not turn up.
+    pub fn answered<I: Shown, const N: usize>(
+        &mut self,
+        operation: &Operation<'_>,
+        draw: impl Fn(&mut Values) -> I,
+        rattle: impl Fn(&I) -> Answer<N>,
+        rust: impl Fn(&I) -> Expected<N>,
+    ) {
+        let name = operation.name;
+        let counts = Counts::default();
+        let mut values = Values::new(Rng::new(self.seed, name));
+        let calls = operation.thousands * 1_000 * self.times;
+        let cases = (0..calls).map(|_| draw(&mut values));
+        self.each(name, cases, rattle, |case| {
+            let expected = rust(case);
+            counts.note(&expected);
+            expected.answer()
+        });
+        println!("{}", counts.show());
+        if counts.numbers[0].get() * 3 < calls {
+            self.lacking(&format!("{name}: fewer than a third were accepted"));
+        }
+        for &n in operation.numbers {
+            if counts.numbers[n].get() == 0 {
+                self.lacking(&format!("{name}: none was refused with {n}"));
+            }
+        }
+    }
+}

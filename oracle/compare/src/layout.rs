@@ -1,0 +1,66 @@
+//! Crate layout beside egui's layout.rs and document 01's table.
+
+mod corners;
+mod faulty;
+mod fields;
+mod frames;
+mod regions;
+mod states;
+
+use egui::layout::Layout;
+use egui::{Align, Direction};
+use emath::{Vec2, vec2};
+
+use crate::emath_align::align;
+use crate::tally::Tally;
+use crate::values::Fields;
+use corners::Corners;
+
+pub fn compare(t: &mut Tally) {
+    let corners = Corners::default();
+    fields::compare(t);
+    regions::compare(t, &corners);
+    frames::compare(t, &corners);
+    corners.show(t);
+}
+
+fn direction(n: u8) -> Direction {
+    [
+        Direction::LeftToRight,
+        Direction::RightToLeft,
+        Direction::TopDown,
+        Direction::BottomUp,
+    ][usize::from(n)]
+}
+
+fn layout(&[dir, wrap, main, main_justify, cross, cross_justify]: &Fields) -> Layout {
+    Layout {
+        main_dir: direction(dir),
+        main_wrap: wrap != 0,
+        main_align: align(main),
+        main_justify: main_justify != 0,
+        cross_align: align(cross),
+        cross_justify: cross_justify != 0,
+    }
+}
+
+fn align_number(a: Align) -> u8 {
+    match a {
+        Align::Min => 0,
+        Align::Center => 1,
+        Align::Max => 2,
+    }
+}
+
+/// All 288 layouts.
+fn layouts() -> impl Iterator<Item = Fields> {
+    (0..288).map(numbered)
+}
+
+fn numbered(n: u32) -> Fields {
+    [n % 4, n / 4 % 2, n / 8 % 3, n / 24 % 2, n / 48 % 3, n / 144].map(|field| field as u8)
+}
+
+fn pair(&[x, y]: &[f32; 2]) -> Vec2 {
+    vec2(x, y)
+}

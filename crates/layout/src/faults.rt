@@ -20,7 +20,7 @@ ghost use mathlib.Core.Path.{_≡_};
 ghost use Rattle.layout.specs.Refusals.{excused, closed, cursorFault, regionFault, rectAnswer, posAnswer, sizeAnswer, regionAnswer, cursorAnswer, zeroRegion};
 ghost use Rattle.layout.specs.Operations.{placed, framed, moved};
 
-fn excused_edge(outward: f32, edge: f32) -> f32
+pub fn excused_edge(outward: f32, edge: f32) -> f32
     ensures { λ r. ⌜ r ≡ excused outward edge ⌝ }
 {
     if edge == outward { 0.0 } else { edge }

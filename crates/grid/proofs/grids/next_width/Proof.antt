@@ -1,0 +1,15 @@
+-- `grid::grids::next_width` meets its contract. Assumes nothing.
+use Rattle.grid.specs.Grids.{nextWidth}
+use Rattle.grid.proofs.grids.next_width.Statement.{statement}
+use Rattle.grid.proofs.grids.next_width.Tie as tie
+
+returns : tie.Need-returns
+unfolding nextWidth
+returns c = rw (c .if1 .taken)
+
+returns-2 : tie.Need-returns-2
+unfolding nextWidth
+returns-2 c = rw (c .before .if1 .left, c .col-width .ensures)
+
+pub next-width-spec : {M : Type 1} → statement M
+next-width-spec = tie.close (tie.spec returns (λ c κs. tt) returns-2)

@@ -1,0 +1,89 @@
+-- The public calls of grid.rs: the least number that applies to the arguments, or else to the answer, or else what the rule gives.
+-- "Callers' states count as arguments." Every call rounds to ticks: k = 5.
+use Prim.Native.Nat.{ℕ}
+use mathlib.Core.Bool.{Bool, _&&_}
+use mathlib.Core.List.{[], _∷_}
+use lib.Dec.{ltb, leb}
+use lib.Ieee.{Float}
+use Rattle.emath.specs.Rectangles.{zeroF}
+use Rattle.emath.specs.Refusals.{when, least, orElse, lengthFault, extentFault, pairFault, sizeFault, rectFault, outside}
+use Rattle.layout.specs.Refusals.{cursorFault, regionFault}
+use Rattle.layout.specs.Operations.{placed, framed}
+use Rattle.grid.specs.Memories.{setMinColWidth, setMinRowHeight, colWidth, rowHeight, fullWidth}
+use Rattle.grid.specs.Grids.{knownMemory, newGrid, emptyGrid, prevColWidth, prevRowHeight, availableRect, nextCell, alignSizeWithinRect, advance, endRow, save}
+use Rattle.grid.specs.Refusals.{memoryFault, maxCellFault, gridFault, directionFault, movedFault, memoryAnswer, gridAnswer, movedAnswer, savedAnswer, lengthAnswer, entryAnswer}
+use Rattle.emath.specs.declared.Rect.{Rect}
+use Rattle.emath.specs.declared.Vec2.{Vec2}
+use Rattle.layout.specs.declared.Direction.{Direction}
+use Rattle.layout.specs.declared.Region.{Region}
+use Rattle.layout.specs.declared.RectAnswer.{RectAnswer}
+use Rattle.grid.specs.declared.Memory.{Memory}
+use Rattle.grid.specs.declared.GridLayout.{GridLayout}
+use Rattle.grid.specs.declared.LengthAnswer.{LengthAnswer}
+use Rattle.grid.specs.declared.MemoryAnswer.{MemoryAnswer}
+use Rattle.grid.specs.declared.GridAnswer.{GridAnswer}
+use Rattle.grid.specs.declared.MovedAnswer.{MovedAnswer}
+use Rattle.grid.specs.declared.SavedAnswer.{SavedAnswer}
+
+-- ---- Memory
+unfoldable pub checkedSetMinColWidth : Memory → ℕ → Float → MemoryAnswer
+checkedSetMinColWidth m col w =
+    memoryAnswer (orElse (least (memoryFault m ∷ extentFault w ∷ when (leb 32 col) 8 ∷ [])) (outside (memoryFault (setMinColWidth m col w)))) m (setMinColWidth m col w)
+
+unfoldable pub checkedSetMinRowHeight : Memory → ℕ → Float → MemoryAnswer
+checkedSetMinRowHeight m row h =
+    memoryAnswer (orElse (least (memoryFault m ∷ extentFault h ∷ when (leb 128 row) 8 ∷ [])) (outside (memoryFault (setMinRowHeight m row h)))) m (setMinRowHeight m row h)
+
+-- a column or row beyond the count has no entry
+unfoldable pub checkedColWidth : Memory → ℕ → LengthAnswer
+checkedColWidth m col = entryAnswer (memoryFault m) (ltb col (m .cols) && ltb col 32) (colWidth m col zeroF)
+
+unfoldable pub checkedRowHeight : Memory → ℕ → LengthAnswer
+checkedRowHeight m row = entryAnswer (memoryFault m) (ltb row (m .rows) && ltb row 128) (rowHeight m row zeroF)
+
+unfoldable pub checkedFullWidth : Memory → Float → LengthAnswer
+checkedFullWidth m x = lengthAnswer (orElse (least (memoryFault m ∷ lengthFault x ∷ [])) (outside (lengthFault (fullWidth m x)))) (fullWidth m x)
+
+-- ---- GridLayout
+-- An absent memory is not read. There is no given grid: refused, the answer is a grid of zeros.
+unfoldable pub checkedNew : Direction → Region → Bool → Memory → Bool → Vec2 → Vec2 → Vec2 → ℕ → ℕ → GridAnswer
+checkedNew d g known m sizing sp smallest largest columns start =
+    gridAnswer
+    (orElse
+    (least (regionFault d g ∷ memoryFault (knownMemory known m) ∷ pairFault (sp .x) (sp .y) ∷ sizeFault smallest ∷ maxCellFault largest ∷ directionFault d ∷ when (ltb 128 start) 8 ∷ []))
+    (outside (gridFault (newGrid g known m sizing sp smallest largest columns start))))
+    emptyGrid (newGrid g known m sizing sp smallest largest columns start)
+
+unfoldable pub checkedPrevColWidth : GridLayout → ℕ → LengthAnswer
+checkedPrevColWidth g col = lengthAnswer (gridFault g) (prevColWidth g col)
+
+unfoldable pub checkedPrevRowHeight : GridLayout → ℕ → LengthAnswer
+checkedPrevRowHeight g row = lengthAnswer (gridFault g) (prevRowHeight g row)
+
+unfoldable pub checkedAvailableRect : GridLayout → Direction → Region → RectAnswer
+checkedAvailableRect g d r = placed (least (gridFault g ∷ regionFault d r ∷ directionFault d ∷ [])) (availableRect g r)
+
+unfoldable pub checkedNextCell : GridLayout → Direction → Rect → Vec2 → RectAnswer
+checkedNextCell g d c s = framed (least (gridFault g ∷ cursorFault d c ∷ sizeFault s ∷ directionFault d ∷ [])) (nextCell 5 g c s)
+
+unfoldable pub checkedAlignSizeWithinRect : GridLayout → Vec2 → Rect → RectAnswer
+checkedAlignSizeWithinRect g s f = placed (least (gridFault g ∷ sizeFault s ∷ rectFault f ∷ [])) (alignSizeWithinRect 5 s f)
+
+-- 8: "an advance (so a W) at column 32 or row 128"
+unfoldable pub checkedAdvance : GridLayout → Direction → Rect → Rect → Rect → MovedAnswer
+checkedAdvance g d c f w =
+    movedAnswer
+    (orElse
+    (least (gridFault g ∷ cursorFault d c ∷ rectFault f ∷ rectFault w ∷ directionFault d ∷ when (leb 32 (g .col)) 8 ∷ when (leb 128 (g .row)) 8 ∷ []))
+    (outside (movedFault d (advance g c w))))
+    (record { grid = g; cursor = c }) (advance g c w)
+
+-- 8: "an end of row at row 128"
+unfoldable pub checkedEndRow : GridLayout → Direction → Rect → MovedAnswer
+checkedEndRow g d c =
+    movedAnswer
+    (orElse (least (gridFault g ∷ cursorFault d c ∷ directionFault d ∷ when (leb 128 (g .row)) 8 ∷ [])) (outside (movedFault d (endRow g c))))
+    (record { grid = g; cursor = c }) (endRow g c)
+
+unfoldable pub checkedSave : GridLayout → SavedAnswer
+checkedSave g = savedAnswer (gridFault g) (g .«prev_state») (save g)

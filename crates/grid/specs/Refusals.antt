@@ -1,0 +1,88 @@
+-- Document 01, "Turned back", for a memory and a grid; and the answers that carry the numbers.
+use Prim.Native.Nat.{ℕ}
+use mathlib.Core.Bool.{Bool, true, false, cond, not}
+use mathlib.Core.List.{[], _∷_}
+use lib.Dec.{eqb, ltb}
+use lib.Ieee.{Float}
+use Rattle.emath.specs.Rectangles.{zeroF}
+use Rattle.emath.specs.Refusals.{when, least, pairFault, sizeFault, edgesFault}
+use Rattle.layout.specs.Rules.{infinity}
+use Rattle.layout.specs.Refusals.{excused, cursorFault}
+use Rattle.layout.specs.Operations.{moved}
+use Rattle.grid.specs.Entries.{entriesFault}
+use Rattle.grid.specs.Memories.{widths, heights}
+use Rattle.grid.specs.Grids.{save}
+use Rattle.emath.specs.declared.Vec2.{Vec2}
+use Rattle.layout.specs.declared.Direction.{Direction}
+use Rattle.layout.specs.declared.Direction.the-variants.{LeftToRight, RightToLeft, TopDown, BottomUp}
+use Rattle.grid.specs.declared.Memory.{Memory}
+use Rattle.grid.specs.declared.GridLayout.{GridLayout}
+use Rattle.grid.specs.declared.Moved.{Moved}
+use Rattle.grid.specs.declared.Saved.{Saved}
+use Rattle.grid.specs.declared.LengthAnswer.{LengthAnswer}
+use Rattle.grid.specs.declared.LengthAnswer.the-variants.{Length, Nothing, Refused}
+use Rattle.grid.specs.declared.MemoryAnswer.{MemoryAnswer}
+use Rattle.grid.specs.declared.GridAnswer.{GridAnswer}
+use Rattle.grid.specs.declared.MovedAnswer.{MovedAnswer}
+use Rattle.grid.specs.declared.SavedAnswer.{SavedAnswer}
+
+-- ---- the faults of a state
+-- 4, 5 and 6 of the counted entries; 8: "a state's … column count above 32, or … row count above 128"
+unfoldable pub memoryFault : Memory → ℕ
+memoryFault m = least (entriesFault (widths m) ∷ entriesFault (heights m) ∷ when (ltb 32 (m .cols)) 8 ∷ when (ltb 128 (m .rows)) 8 ∷ [])
+
+-- "a maximum cell size may be positive infinity"
+unfoldable pub maxCellFault : Vec2 → ℕ
+maxCellFault v = sizeFault (record { x = excused infinity (v .x); y = excused infinity (v .y) })
+
+-- 8: "a state's column … above 32, or row … above 128"
+unfoldable pub gridFault : GridLayout → ℕ
+gridFault g = least (
+    memoryFault (g .«prev_state») ∷ memoryFault (g .«curr_state») ∷ edgesFault (g .«initial_available») ∷ pairFault (g .spacing .x) (g .spacing .y)
+    ∷ sizeFault (g .«min_cell_size») ∷ maxCellFault (g .«max_cell_size») ∷ when (ltb 32 (g .col)) 8 ∷ when (ltb 128 (g .row)) 8 ∷ [])
+
+-- 7: "grid on direction 1 or 3"
+unfoldable pub fitsGrid : Direction → Bool
+fitsGrid LeftToRight = true
+fitsGrid RightToLeft = false
+fitsGrid TopDown = true
+fitsGrid BottomUp = false
+
+unfoldable pub directionFault : Direction → ℕ
+directionFault d = when (not (fitsGrid d)) 7
+
+-- a new grid and cursor
+unfoldable pub movedFault : Direction → Moved → ℕ
+movedFault d m = least (gridFault (m .grid) ∷ cursorFault d (m .cursor) ∷ [])
+
+-- ---- the answers
+unfoldable pub memoryAnswer : ℕ → Memory → Memory → MemoryAnswer
+memoryAnswer n given new = record { number = n; memory = cond (eqb n 0) new given }
+
+unfoldable pub gridAnswer : ℕ → GridLayout → GridLayout → GridAnswer
+gridAnswer n given new = record { number = n; grid = cond (eqb n 0) new given }
+
+unfoldable pub movedAnswer : ℕ → Moved → Moved → MovedAnswer
+movedAnswer n given new = record { number = n; moved = cond (eqb n 0) new given }
+
+-- refused, the memory is the one that the pass was given, and the flag is clear
+unfoldable pub savedAnswer : ℕ → Memory → Saved → SavedAnswer
+savedAnswer n given new = record { number = n; saved = cond (eqb n 0) new (record { memory = given; save = false }) }
+
+unfoldable pub lengthAnswer : ℕ → Float → LengthAnswer
+lengthAnswer n v = cond (eqb n 0) (Length v) (Refused n)
+
+-- an entry that may not be there
+unfoldable pub entryAnswer : ℕ → Bool → Float → LengthAnswer
+entryAnswer n there v = cond (eqb n 0) (cond there (Length v) Nothing) (Refused n)
+
+-- document 01's number and value of each case: none where nothing is remembered, and zero where it is refused
+unfoldable pub lengthNumber : LengthAnswer → ℕ
+lengthNumber (Length v) = 0
+lengthNumber Nothing = 0
+lengthNumber (Refused n) = n
+
+unfoldable pub lengthValue : LengthAnswer → Float
+lengthValue (Length v) = v
+lengthValue Nothing = zeroF
+lengthValue (Refused n) = zeroF

@@ -1,0 +1,287 @@
+// GridLayout, in grid.rs's order, before anything is refused.
+use crate::GridLayout;
+use crate::MAX_COLS;
+use crate::MAX_ROWS;
+use crate::Memory;
+use crate::Moved;
+use crate::Saved;
+use crate::memories::col_width;
+use crate::memories::empty_memory;
+use crate::memories::row_height;
+use crate::memories::same_memory;
+use crate::memories::set_min_col_width;
+use crate::memories::set_min_row_height;
+use emath::Align2;
+use emath::Pos2;
+use emath::Rect;
+use emath::Vec2;
+use emath::domain::is_finite;
+use emath::num::at_least;
+use emath::num::at_most;
+use emath::num::max;
+use layout::Region;
+ghost use mathlib.Core.Path.{_≡_};
+ghost use Prim.Native.Nat.{_+_, _<_};
+ghost use lib.Dec.{eqb};
+ghost use Rattle.emath.specs.Domain.{finite};
+ghost use Rattle.grid.specs.Grids.{knownMemory, newGrid, emptyGrid, prevColWidth, prevRowHeight, lastWidth, otherWidth, cellWidth, cellHeight, availableRect, nextWidth, nextCell, alignSizeWithinRect, noted, advanced, advance, rowEnded, endRow, save};
+
+pub fn known_memory(known: bool, memory: Memory) -> Memory
+    ensures { λ m. ⌜ m ≡ knownMemory known memory ⌝ }
+{
+    if known { memory } else { empty_memory() }
+}
+
+// `known` says whether there is a memory of an earlier pass. `num_columns` is 0 where it is not named.
+pub fn new_grid(
+    region: Region,
+    known: bool,
+    memory: Memory,
+    sizing_pass: bool,
+    spacing: Vec2,
+    min_cell_size: Vec2,
+    max_cell_size: Vec2,
+    num_columns: usize,
+    start_row: usize,
+) -> GridLayout
+    ensures { λ g. ⌜ g ≡ newGrid region known memory «sizing_pass» spacing «min_cell_size» «max_cell_size» «num_columns» «start_row» ⌝ }
+{
+    let prev = known_memory(known, memory);
+    let curr = empty_memory();
+    let available = region.max_rect.intersect(region.cursor);
+    GridLayout {
+        is_first_frame: !known,
+        prev_state: prev,
+        curr_state: curr,
+        initial_available: available,
+        sizing_pass: sizing_pass,
+        num_columns: num_columns,
+        spacing: spacing,
+        min_cell_size: min_cell_size,
+        max_cell_size: max_cell_size,
+        col: 0,
+        row: start_row,
+    }
+}
+
+// A grid of zeros.
+pub fn empty_grid() -> GridLayout
+    ensures { λ g. ⌜ g ≡ emptyGrid ⌝ }
+{
+    let m = empty_memory();
+    let r = Rect {
+        left: 0.0,
+        top: 0.0,
+        right: 0.0,
+        bottom: 0.0,
+    };
+    let v = Vec2 { x: 0.0, y: 0.0 };
+    GridLayout {
+        is_first_frame: true,
+        prev_state: m,
+        curr_state: m,
+        initial_available: r,
+        sizing_pass: false,
+        num_columns: 0,
+        spacing: v,
+        min_cell_size: v,
+        max_cell_size: v,
+        col: 0,
+        row: 0,
+    }
+}
+
+pub fn prev_col_width(grid: GridLayout, col: usize) -> f32
+    ensures { λ r. ⌜ r ≡ prevColWidth grid col ⌝ }
+{
+    col_width(grid.prev_state, col, grid.min_cell_size.x)
+}
+
+pub fn prev_row_height(grid: GridLayout, row: usize) -> f32
+    ensures { λ r. ⌜ r ≡ prevRowHeight grid row ⌝ }
+{
+    row_height(grid.prev_state, row, grid.min_cell_size.y)
+}
+
+fn is_last_column(grid: GridLayout) -> bool
+    ensures { λ b. ⌜ b ≡ eqb (grid .col + 1) (grid .«num_columns») ⌝ }
+{
+    let n = grid.num_columns;
+    if n == 0 {
+        return false;
+    }
+    grid.col == n - 1
+}
+
+// In a first pass the widths of the columns before are not known yet.
+fn last_width(grid: GridLayout, cursor: Rect) -> f32
+    ensures { λ r. ⌜ r ≡ lastWidth grid cursor ⌝ }
+{
+    if grid.is_first_frame {
+        return col_width(grid.curr_state, grid.col, grid.min_cell_size.x);
+    }
+    at_most(
+        grid.initial_available.right - cursor.left,
+        grid.max_cell_size.x,
+    )
+}
+
+fn other_width(grid: GridLayout) -> f32
+    ensures { λ r. ⌜ r ≡ otherWidth grid ⌝ }
+{
+    if is_finite(grid.max_cell_size.x) {
+        return grid.max_cell_size.x;
+    }
+    let current = col_width(grid.curr_state, grid.col, grid.min_cell_size.x);
+    col_width(grid.prev_state, grid.col, current)
+}
+
+fn cell_width(grid: GridLayout, cursor: Rect) -> f32
+    ensures { λ r. ⌜ r ≡ cellWidth grid cursor ⌝ }
+{
+    if is_last_column(grid) {
+        last_width(grid, cursor)
+    } else {
+        other_width(grid)
+    }
+}
+
+fn cell_height(grid: GridLayout, height: f32) -> f32
+    ensures { λ r. ⌜ r ≡ cellHeight grid height ⌝ }
+{
+    at_most(at_least(height, grid.min_cell_size.y), grid.max_cell_size.y)
+}
+
+pub fn available_rect(grid: GridLayout, region: Region) -> Rect
+    ensures { λ r. ⌜ r ≡ availableRect grid region ⌝ }
+{
+    let width = max(
+        cell_width(grid, region.cursor),
+        col_width(grid.curr_state, grid.col, 0.0),
+    );
+    let available = region.max_rect.intersect(region.cursor);
+    let height = cell_height(grid, region.max_rect.bottom - available.top);
+    let min = Pos2 {
+        x: available.left,
+        y: available.top,
+    };
+    Rect::from_min_size(
+        min,
+        Vec2 {
+            x: width,
+            y: height,
+        },
+    )
+}
+
+// A sizing pass is as narrow as can be.
+fn next_width(grid: GridLayout) -> f32
+    ensures { λ r. ⌜ r ≡ nextWidth grid ⌝ }
+{
+    if grid.sizing_pass {
+        return 0.0;
+    }
+    col_width(grid.prev_state, grid.col, 0.0)
+}
+
+pub fn next_cell(grid: GridLayout, cursor: Rect, child_size: Vec2) -> Rect
+    ensures { λ r. ⌜ r ≡ nextCell 5 grid cursor «child_size» ⌝ }
+{
+    let width = next_width(grid);
+    let height = prev_row_height(grid, grid.row);
+    let size = Vec2 {
+        x: max(child_size.x, width),
+        y: max(child_size.y, height),
+    };
+    let min = Pos2 {
+        x: cursor.left,
+        y: cursor.top,
+    };
+    Rect::from_min_size(min, size).round_ui()
+}
+
+pub fn align_size_within_rect(size: Vec2, frame: Rect) -> Rect
+    ensures { λ r. ⌜ r ≡ alignSizeWithinRect 5 size frame ⌝ }
+{
+    let a = Align2::LEFT_CENTER;
+    a.align_size_within_rect(size, frame).round_ui()
+}
+
+// What this pass remembers after a widget.
+fn noted_memory(grid: GridLayout, widget: Rect) -> Memory
+    ensures { λ m. ⌜ m ≡ noted grid widget ⌝ }
+{
+    let width = max(widget.width(), grid.min_cell_size.x);
+    let height = max(widget.height(), grid.min_cell_size.y);
+    set_min_row_height(
+        set_min_col_width(grid.curr_state, grid.col, width),
+        grid.row,
+        height,
+    )
+}
+
+fn advanced_grid(grid: GridLayout, cursor: Rect, widget: Rect) -> Moved
+    requires { ⌜ grid .col < 32 ⌝ }
+    ensures { λ m. ⌜ m ≡ advanced grid cursor widget ⌝ }
+{
+    let memory = noted_memory(grid, widget);
+    let mut c = cursor;
+    c.left = cursor.left + (prev_col_width(grid, grid.col) + grid.spacing.x);
+    let mut g = grid;
+    g.curr_state = memory;
+    g.col = grid.col + 1;
+    Moved { grid: g, cursor: c }
+}
+
+// Where the grid has no room nothing changes.
+pub fn advance(grid: GridLayout, cursor: Rect, widget: Rect) -> Moved
+    ensures { λ m. ⌜ m ≡ advance grid cursor widget ⌝ }
+{
+    if grid.col < MAX_COLS {
+        if grid.row < MAX_ROWS {
+            return advanced_grid(grid, cursor, widget);
+        }
+    }
+    Moved {
+        grid: grid,
+        cursor: cursor,
+    }
+}
+
+fn row_ended(grid: GridLayout, cursor: Rect) -> Moved
+    requires { ⌜ grid .row < 128 ⌝ }
+    ensures { λ m. ⌜ m ≡ rowEnded grid cursor ⌝ }
+{
+    let height = row_height(grid.curr_state, grid.row, grid.min_cell_size.y);
+    let mut c = cursor;
+    c.left = grid.initial_available.left;
+    c.top = cursor.top + grid.spacing.y + height;
+    let mut g = grid;
+    g.col = 0;
+    g.row = grid.row + 1;
+    Moved { grid: g, cursor: c }
+}
+
+pub fn end_row(grid: GridLayout, cursor: Rect) -> Moved
+    ensures { λ m. ⌜ m ≡ endRow grid cursor ⌝ }
+{
+    if grid.row < MAX_ROWS {
+        return row_ended(grid, cursor);
+    }
+    Moved {
+        grid: grid,
+        cursor: cursor,
+    }
+}
+
+// To be saved where it changed, and in a first pass.
+pub fn save(grid: GridLayout) -> Saved
+    ensures { λ s. ⌜ s ≡ save grid ⌝ }
+{
+    let memory = grid.curr_state;
+    let same = same_memory(memory, grid.prev_state);
+    Saved {
+        memory: memory,
+        save: !same | grid.is_first_frame,
+    }
+}

@@ -1,17 +1,17 @@
 -- min and max in document 01's words, for every two floats: where they are equal the first, where one is NaN the other, else the lesser
 -- or the greater; always one of the two. Assumes nothing.
-use mathlib.Core.Path.{_≡_, refl, sym}
+use mathlib.Core.Path.{subst, _≡_, refl, sym}
 use mathlib.Core.Logic.{_⊎_, inl, inr}
 use Prim.Native.Nat.{ℕ, _+_, _*_}
 use native.Mathlib.Omega.{arith}
 use mathlib.Core.Bool.{Bool, true, false, not, cond}
 use lib.Dec.{T, eqb, eqb→eq, eqb-refl}
-use lib.Ieee.{Float, nan, inf, fin, lt, eq, ne, below, level, up, down}
+use lib.Ieee.{le, Float, nan, inf, fin, lt, eq, ne, below, level, up, down}
 use lib.Ieee.Fits.{and-l, and-r}
 use lib.Ieee.Compare.{differs-from-itself, nan-differs}
 use Rattle.emath.specs.Rectangles.{minF, maxF}
-use Rattle.emath.proofs.Tests.{not-lt, T-true}
-use Rattle.emath.proofs.OrderLaws.{lt-nan}
+use Rattle.emath.proofs.Tests.{or-l, not-lt, T-of, T-true}
+use Rattle.emath.proofs.OrderLaws.{Number, lt-nan, not-lt-le}
 
 one-of : (t u : Bool) (a b : Float) → (cond t b (cond u b a) ≡ a) ⊎ (cond t b (cond u b a) ≡ b)
 one-of true u a b = inr refl
@@ -93,3 +93,37 @@ min-equal a b h = let f = equal-flat a b h in rw (f .1, f .2)
 pub max-equal : (a b : Float) → T (eq a b) → maxF a b ≡ a
 unfolding maxF
 max-equal a b h = let f = equal-flat a b h in rw (f .0, f .2)
+
+-- ---- the greater of two is below neither, unless that is NaN
+lt-self : (a : Float) → lt a a ≡ false
+unfolding lt
+lt-self nan = refl
+lt-self (inf true) = refl
+lt-self (inf false) = refl
+lt-self (fin true m e) = not-lt (m * up e * down e) (m * up e * down e) (omega arith)
+lt-self (fin false m e) = not-lt (m * up e * down e) (m * up e * down e) (omega arith)
+
+number-kept : (a : Float) → Number a → ne a a ≡ false
+number-kept a p = go (ne a a) (differs-from-itself a)
+  where
+    go : (t : Bool) → (T t → a ≡ nan) → t ≡ false
+    go true f = absurd (subst Number (f tt) p)
+    go false f = refl
+
+lt-le : (a b : Float) → T (lt a b) → T (le a b)
+unfolding le
+lt-le a b h = or-l (lt a b) (eq a b) h
+
+pub max-first-le : (a b : Float) → Number a → T (le a (maxF a b))
+max-first-le a b p = go (lt a b) refl
+  where
+    go : (t : Bool) → lt a b ≡ t → T (le a (maxF a b))
+    go true e = unfold maxF in rw e (lt-le a b (T-of e))
+    go false e = unfold maxF in rw (e, number-kept a p) (not-lt-le a a p p (lt-self a))
+
+pub max-second-le : (a b : Float) → Number a → Number b → T (le b (maxF a b))
+max-second-le a b p q = go (lt a b) refl
+  where
+    go : (t : Bool) → lt a b ≡ t → T (le b (maxF a b))
+    go true e = unfold maxF in rw e (not-lt-le b b q q (lt-self b))
+    go false e = unfold maxF in rw (e, number-kept a p) (not-lt-le b a q p e)

@@ -1,0 +1,4 @@
+-- placer.rs, in its order: what the calls compute; what is refused; the public calls with the refusals in front.
+pub mod Rules
+pub mod Refusals
+pub mod Operations

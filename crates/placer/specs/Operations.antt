@@ -1,0 +1,95 @@
+-- The public calls of placer.rs: the least number that applies to the arguments, or else to the answer, or else what the rule gives.
+-- "Callers' states count as arguments." Every call rounds to ticks: k = 5.
+use Prim.Native.Nat.{ℕ}
+use mathlib.Core.List.{[], _∷_}
+use lib.Ieee.{Float}
+use Rattle.emath.specs.Refusals.{when, least, orElse, lengthFault, extentFault, pairFault, sizeFault, rectFault, outside}
+use Rattle.emath.specs.declared.Rect.{Rect}
+use Rattle.emath.specs.declared.Vec2.{Vec2}
+use Rattle.layout.specs.Refusals.{cursorFault, posAnswer, sizeAnswer}
+use Rattle.layout.specs.Operations.{placed, framed}
+use Rattle.layout.specs.declared.Layout.{Layout}
+use Rattle.layout.specs.declared.RectAnswer.{RectAnswer}
+use Rattle.layout.specs.declared.PosAnswer.{PosAnswer}
+use Rattle.layout.specs.declared.SizeAnswer.{SizeAnswer}
+use Rattle.grid.specs.Refusals.{gridFault, directionFault, savedAnswer}
+use Rattle.grid.specs.declared.GridLayout.{GridLayout}
+use Rattle.grid.specs.declared.SavedAnswer.{SavedAnswer}
+use Rattle.placer.specs.Rules.{newPlacer, setGrid, saveGrid, forceSetMinRect, setCursor, alignSizeWithinRect, availableRectBeforeWrap, availableSize, nextSpace, nextWidgetPosition, justifyAndAlign, advanceCursor, advanceAfterRects, endRow, setRowHeight, expandToIncludeRect, expandToIncludeX, expandToIncludeY, nextWidgetSpaceIgnoreWrapJustify, setMaxWidth, setMaxHeight, setMinWidth, setMinHeight}
+use Rattle.placer.specs.Refusals.{placerFault, advanceFault, endRowFault, zeroPlacer, changed}
+use Rattle.placer.specs.declared.Placer.{Placer}
+use Rattle.placer.specs.declared.PlacerAnswer.{PlacerAnswer}
+
+unfoldable pub checkedNew : Rect → Layout → PlacerAnswer
+checkedNew m l = changed (rectFault m) (zeroPlacer l) (newPlacer 5 m l)
+
+unfoldable pub checkedSetGrid : Placer → GridLayout → PlacerAnswer
+checkedSetGrid p g = changed (least (placerFault p ∷ gridFault g ∷ directionFault (p .layout .«main_dir») ∷ [])) p (setGrid p g)
+
+-- refused, the memory is the one that the pass was given
+unfoldable pub checkedSaveGrid : Placer → SavedAnswer
+checkedSaveGrid p = savedAnswer (placerFault p) (p .grid .«prev_state») (saveGrid p)
+
+unfoldable pub checkedForceSetMinRect : Placer → Rect → PlacerAnswer
+checkedForceSetMinRect p m = changed (least (placerFault p ∷ rectFault m ∷ [])) p (forceSetMinRect p m)
+
+unfoldable pub checkedSetCursor : Placer → Rect → PlacerAnswer
+checkedSetCursor p c = changed (least (placerFault p ∷ cursorFault (p .layout .«main_dir») c ∷ [])) p (setCursor p c)
+
+unfoldable pub checkedAlignSizeWithinRect : Placer → Vec2 → Rect → RectAnswer
+checkedAlignSizeWithinRect p s o = placed (least (placerFault p ∷ sizeFault s ∷ rectFault o ∷ [])) (alignSizeWithinRect 5 p s o)
+
+unfoldable pub checkedAvailableRectBeforeWrap : Placer → RectAnswer
+checkedAvailableRectBeforeWrap p = placed (placerFault p) (availableRectBeforeWrap 5 p)
+
+unfoldable pub checkedAvailableSize : Placer → SizeAnswer
+checkedAvailableSize p = sizeAnswer (orElse (placerFault p) (outside (pairFault (availableSize p .x) (availableSize p .y)))) (availableSize p)
+
+unfoldable pub checkedNextSpace : Placer → Vec2 → Vec2 → RectAnswer
+checkedNextSpace p s sp = framed (least (placerFault p ∷ sizeFault s ∷ pairFault (sp .x) (sp .y) ∷ [])) (nextSpace 5 p s sp)
+
+unfoldable pub checkedNextWidgetPosition : Placer → PosAnswer
+checkedNextWidgetPosition p =
+    posAnswer (orElse (placerFault p) (outside (pairFault (nextWidgetPosition 5 p .x) (nextWidgetPosition 5 p .y)))) (nextWidgetPosition 5 p)
+
+unfoldable pub checkedJustifyAndAlign : Placer → Rect → Vec2 → RectAnswer
+checkedJustifyAndAlign p r s = placed (least (placerFault p ∷ rectFault r ∷ sizeFault s ∷ [])) (justifyAndAlign 5 p r s)
+
+-- 7: "S in a grid", also by 0
+unfoldable pub checkedAdvanceCursor : Placer → Float → PlacerAnswer
+checkedAdvanceCursor p a = changed (least (placerFault p ∷ lengthFault a ∷ when (p .«has_grid») 7 ∷ [])) p (advanceCursor p a)
+
+unfoldable pub checkedAdvanceAfterRects : Placer → Rect → Rect → Vec2 → PlacerAnswer
+checkedAdvanceAfterRects p f w sp =
+    changed (least (placerFault p ∷ rectFault f ∷ rectFault w ∷ pairFault (sp .x) (sp .y) ∷ advanceFault p ∷ [])) p (advanceAfterRects p f w sp)
+
+unfoldable pub checkedEndRow : Placer → Vec2 → PlacerAnswer
+checkedEndRow p sp = changed (least (placerFault p ∷ pairFault (sp .x) (sp .y) ∷ endRowFault p ∷ [])) p (endRow p sp)
+
+unfoldable pub checkedSetRowHeight : Placer → Float → PlacerAnswer
+checkedSetRowHeight p h = changed (least (placerFault p ∷ lengthFault h ∷ [])) p (setRowHeight p h)
+
+unfoldable pub checkedExpandToIncludeRect : Placer → Rect → PlacerAnswer
+checkedExpandToIncludeRect p r = changed (least (placerFault p ∷ rectFault r ∷ [])) p (expandToIncludeRect p r)
+
+unfoldable pub checkedExpandToIncludeX : Placer → Float → PlacerAnswer
+checkedExpandToIncludeX p x = changed (least (placerFault p ∷ lengthFault x ∷ [])) p (expandToIncludeX p x)
+
+unfoldable pub checkedExpandToIncludeY : Placer → Float → PlacerAnswer
+checkedExpandToIncludeY p y = changed (least (placerFault p ∷ lengthFault y ∷ [])) p (expandToIncludeY p y)
+
+unfoldable pub checkedNextWidgetSpaceIgnoreWrapJustify : Placer → Vec2 → RectAnswer
+checkedNextWidgetSpaceIgnoreWrapJustify p s = placed (least (placerFault p ∷ sizeFault s ∷ [])) (nextWidgetSpaceIgnoreWrapJustify 5 p s)
+
+-- 6: "negative … maximum width or height"
+unfoldable pub checkedSetMaxWidth : Placer → Float → PlacerAnswer
+checkedSetMaxWidth p w = changed (least (placerFault p ∷ extentFault w ∷ [])) p (setMaxWidth 5 p w)
+
+unfoldable pub checkedSetMaxHeight : Placer → Float → PlacerAnswer
+checkedSetMaxHeight p h = changed (least (placerFault p ∷ extentFault h ∷ [])) p (setMaxHeight 5 p h)
+
+unfoldable pub checkedSetMinWidth : Placer → Float → PlacerAnswer
+checkedSetMinWidth p w = changed (least (placerFault p ∷ lengthFault w ∷ [])) p (setMinWidth 5 p w)
+
+unfoldable pub checkedSetMinHeight : Placer → Float → PlacerAnswer
+checkedSetMinHeight p h = changed (least (placerFault p ∷ lengthFault h ∷ [])) p (setMinHeight 5 p h)

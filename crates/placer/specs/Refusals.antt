@@ -1,0 +1,38 @@
+-- Document 01, "Turned back", for a placer.
+use Prim.Native.Nat.{ℕ}
+use mathlib.Core.Bool.{Bool, false, cond, _&&_}
+use mathlib.Core.List.{[], _∷_}
+use lib.Dec.{eqb, leb}
+use Rattle.emath.specs.Refusals.{when, least, orElse, outside}
+use Rattle.layout.specs.Refusals.{regionFault, zeroRegion}
+use Rattle.grid.specs.Grids.{emptyGrid}
+use Rattle.grid.specs.Refusals.{gridFault, directionFault}
+use Rattle.layout.specs.declared.Layout.{Layout}
+use Rattle.placer.specs.declared.Placer.{Placer}
+use Rattle.placer.specs.declared.PlacerAnswer.{PlacerAnswer}
+
+-- the whole state: the region, and where there is a grid its state and 7, "grid on direction 1 or 3"
+unfoldable pub gridPart : Placer → ℕ
+gridPart p = cond (p .«has_grid») (least (gridFault (p .grid) ∷ directionFault (p .layout .«main_dir») ∷ [])) 0
+
+unfoldable pub placerFault : Placer → ℕ
+placerFault p = least (regionFault (p .layout .«main_dir») (p .region) ∷ gridPart p ∷ [])
+
+-- 8: "in a grid, an advance (so a W) at column 32 or row 128; an end of row at row 128"
+unfoldable pub advanceFault : Placer → ℕ
+advanceFault p = least (when (p .«has_grid» && leb 32 (p .grid .col)) 8 ∷ when (p .«has_grid» && leb 128 (p .grid .row)) 8 ∷ [])
+
+unfoldable pub endRowFault : Placer → ℕ
+endRowFault p = when (p .«has_grid» && leb 128 (p .grid .row)) 8
+
+-- there is no given placer: a refused `new` answers one whose region is all zero
+abbrev pub zeroPlacer : Layout → Placer
+zeroPlacer l = record { «has_grid» = false; grid = emptyGrid; layout = l; region = zeroRegion }
+
+-- a refused call gives the placer back as it was given
+unfoldable pub placerAnswer : ℕ → Placer → Placer → PlacerAnswer
+placerAnswer n given new = record { number = n; placer = cond (eqb n 0) new given }
+
+-- the arguments' number, or else 9 where the new placer has a fault of its own
+unfoldable pub changed : ℕ → Placer → Placer → PlacerAnswer
+changed before given new = placerAnswer (orElse before (outside (placerFault new))) given new

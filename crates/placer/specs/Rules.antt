@@ -1,0 +1,130 @@
+-- placer.rs, function by function, before anything is refused. Where a call rounds, the step is 1 / 2 ^ k point.
+use Prim.Native.Nat.{ℕ}
+use mathlib.Core.Bool.{Bool, true, false, cond}
+use lib.Ieee.{Float, le}
+use Rattle.emath.specs.Rectangles.{zeroF, sizeOf, center, union, roundRect}
+use Rattle.emath.specs.declared.Rect.{Rect}
+use Rattle.emath.specs.declared.Vec2.{Vec2}
+use Rattle.emath.specs.declared.Pos2.{Pos2}
+use Rattle.layout.specs.Rules as layout-rules
+use Rattle.layout.specs.Rules.{zeroVec, withCursor}
+use Rattle.layout.specs.declared.Layout.{Layout}
+use Rattle.layout.specs.declared.Region.{Region}
+use Rattle.grid.specs.Memories.{emptyMemory}
+use Rattle.grid.specs.Grids as grid-rules
+use Rattle.grid.specs.Grids.{emptyGrid}
+use Rattle.grid.specs.declared.GridLayout.{GridLayout}
+use Rattle.grid.specs.declared.Saved.{Saved}
+use Rattle.placer.specs.declared.Placer.{Placer}
+
+-- ---- new, set_grid, save_grid
+unfoldable pub newPlacer : ℕ → Rect → Layout → Placer
+newPlacer k m l = record { «has_grid» = false; grid = emptyGrid; layout = l; region = layout-rules.regionFromMaxRect k l m }
+
+abbrev pub setGrid : Placer → GridLayout → Placer
+setGrid p g = record { «has_grid» = true; grid = g; layout = p .layout; region = p .region }
+
+-- without a grid there is nothing to save
+unfoldable pub saveGrid : Placer → Saved
+saveGrid p = cond (p .«has_grid») (grid-rules.save (p .grid)) (record { memory = emptyMemory; save = false })
+
+-- ---- the region set anew
+abbrev pub withRegion : Placer → Region → Placer
+withRegion p r = record { «has_grid» = p .«has_grid»; grid = p .grid; layout = p .layout; region = r }
+
+unfoldable pub forceSetMinRect : Placer → Rect → Placer
+forceSetMinRect p m = withRegion p (record { «min_rect» = m; «max_rect» = p .region .«max_rect»; cursor = p .region .cursor })
+
+unfoldable pub setCursor : Placer → Rect → Placer
+setCursor p c = withRegion p (withCursor (p .region) c)
+
+-- ---- "It dispatches to the grid if there is one."
+unfoldable pub alignSizeWithinRect : ℕ → Placer → Vec2 → Rect → Rect
+alignSizeWithinRect k p size outer = cond (p .«has_grid») (grid-rules.alignSizeWithinRect k size outer) (layout-rules.alignSizeWithinRect k (p .layout) size outer)
+
+unfoldable pub available : Placer → Rect
+available p = cond (p .«has_grid») (grid-rules.availableRect (p .grid) (p .region)) (layout-rules.availableRectBeforeWrap (p .layout .«main_dir») (p .region))
+
+unfoldable pub availableRectBeforeWrap : ℕ → Placer → Rect
+availableRectBeforeWrap k p = roundRect k (available p)
+
+unfoldable pub availableSize : Placer → Vec2
+availableSize p = cond (p .«has_grid») (sizeOf (grid-rules.availableRect (p .grid) (p .region))) (layout-rules.availableSize (p .layout) (p .region))
+
+unfoldable pub nextSpace : ℕ → Placer → Vec2 → Vec2 → Rect
+nextSpace k p s sp = cond (p .«has_grid») (grid-rules.nextCell k (p .grid) (p .region .cursor) s) (layout-rules.nextFrame k (p .layout) (p .region) s sp)
+
+unfoldable pub nextWidgetPosition : ℕ → Placer → Pos2
+nextWidgetPosition k p =
+    cond (p .«has_grid») (center (grid-rules.nextCell k (p .grid) (p .region .cursor) zeroVec)) (layout-rules.nextWidgetPosition k (p .layout) (p .region))
+
+unfoldable pub justifyAndAlign : ℕ → Placer → Rect → Vec2 → Rect
+justifyAndAlign k p r s = cond (p .«has_grid») (grid-rules.alignSizeWithinRect k s r) (layout-rules.justifyAndAlign k (p .layout) r s)
+
+-- ---- advance_cursor: in a grid it is refused
+unfoldable pub advanceCursor : Placer → Float → Placer
+advanceCursor p a = withRegion p (layout-rules.advanceCursor (p .layout .«main_dir») (p .region) a)
+
+-- ---- expand_to_include_…
+unfoldable pub expandToIncludeRect : Placer → Rect → Placer
+expandToIncludeRect p r = withRegion p (layout-rules.expandToIncludeRect (p .region) r)
+
+unfoldable pub expandToIncludeX : Placer → Float → Placer
+expandToIncludeX p x = withRegion p (layout-rules.expandToIncludeX (p .region) x)
+
+unfoldable pub expandToIncludeY : Placer → Float → Placer
+expandToIncludeY p y = withRegion p (layout-rules.expandToIncludeY (p .region) y)
+
+-- ---- advance_after_rects: the cursor is moved by the grid or the layout, then min_rect and max_rect include the frame
+unfoldable pub movedPast : Placer → Rect → Rect → Vec2 → Placer
+movedPast p f w sp =
+    cond (p .«has_grid»)
+    (setGrid (setCursor p (grid-rules.advance (p .grid) (p .region .cursor) w .cursor)) (grid-rules.advance (p .grid) (p .region .cursor) w .grid))
+    (setCursor p (layout-rules.advanceAfterRects (p .layout) (p .region .cursor) f w sp))
+
+unfoldable pub advanceAfterRects : Placer → Rect → Rect → Vec2 → Placer
+advanceAfterRects p f w sp = expandToIncludeRect (movedPast p f w sp) f
+
+-- ---- end_row, set_row_height: the layout is asked for the row's height even in a grid
+unfoldable pub endRow : Placer → Vec2 → Placer
+endRow p sp =
+    cond (p .«has_grid»)
+    (setGrid (setCursor p (grid-rules.endRow (p .grid) (p .region .cursor) .cursor)) (grid-rules.endRow (p .grid) (p .region .cursor) .grid))
+    (withRegion p (layout-rules.endRow (p .layout) (p .region) sp))
+
+unfoldable pub setRowHeight : Placer → Float → Placer
+setRowHeight p h = withRegion p (layout-rules.setRowHeight (p .layout) (p .region) h)
+
+-- ---- next_widget_space_ignore_wrap_justify
+unfoldable pub nextWidgetSpaceIgnoreWrapJustify : ℕ → Placer → Vec2 → Rect
+nextWidgetSpaceIgnoreWrapJustify k p s = layout-rules.nextWidgetSpaceIgnoreWrapJustify k (p .layout) (p .region) s
+
+-- ---- set_max_width, set_max_height: max_rect as wide as the next widget would be, but not below min_rect, and the cursor with it
+unfoldable pub limitedAcross : Region → Rect → Region
+limitedAcross g r =
+    let m = union (record { left = r .left; top = g .«max_rect» .top; right = r .right; bottom = g .«max_rect» .bottom }) (g .«min_rect») in
+    record { «min_rect» = g .«min_rect»; «max_rect» = m; cursor = record { left = m .left; top = g .cursor .top; right = m .right; bottom = g .cursor .bottom } }
+
+unfoldable pub limitedDown : Region → Rect → Region
+limitedDown g r =
+    let m = union (record { left = g .«max_rect» .left; top = r .top; right = g .«max_rect» .right; bottom = r .bottom }) (g .«min_rect») in
+    record { «min_rect» = g .«min_rect»; «max_rect» = m; cursor = record { left = g .cursor .left; top = m .top; right = g .cursor .right; bottom = m .bottom } }
+
+unfoldable pub setMaxWidth : ℕ → Placer → Float → Placer
+setMaxWidth k p w = withRegion p (limitedAcross (p .region) (nextWidgetSpaceIgnoreWrapJustify k p (record { x = w; y = zeroF })))
+
+unfoldable pub setMaxHeight : ℕ → Placer → Float → Placer
+setMaxHeight k p h = withRegion p (limitedDown (p .region) (nextWidgetSpaceIgnoreWrapJustify k p (record { x = zeroF; y = h })))
+
+-- ---- set_min_width, set_min_height: "with 0 or less change nothing"
+unfoldable pub grownAcross : Placer → Rect → Placer
+grownAcross p r = expandToIncludeX (expandToIncludeX p (r .left)) (r .right)
+
+unfoldable pub grownDown : Placer → Rect → Placer
+grownDown p r = expandToIncludeY (expandToIncludeY p (r .top)) (r .bottom)
+
+unfoldable pub setMinWidth : ℕ → Placer → Float → Placer
+setMinWidth k p w = cond (le w zeroF) p (grownAcross p (nextWidgetSpaceIgnoreWrapJustify k p (record { x = w; y = zeroF })))
+
+unfoldable pub setMinHeight : ℕ → Placer → Float → Placer
+setMinHeight k p h = cond (le h zeroF) p (grownDown p (nextWidgetSpaceIgnoreWrapJustify k p (record { x = zeroF; y = h })))

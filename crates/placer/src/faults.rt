@@ -1,0 +1,95 @@
+// The numbers of document 01's "Turned back" for a placer, and the answers that carry them.
+use crate::Placer;
+use crate::PlacerAnswer;
+use emath::faults::lesser_number;
+use emath::faults::number_when;
+use emath::faults::or_else;
+use emath::faults::outside_domain;
+use grid::MAX_COLS;
+use grid::MAX_ROWS;
+use grid::faults::direction_fault;
+use grid::faults::grid_fault;
+use grid::grids::empty_grid;
+use layout::Layout;
+use layout::faults::region_fault;
+use layout::faults::zero_region;
+ghost use mathlib.Core.Path.{_≡_};
+ghost use Rattle.placer.specs.Refusals.{gridPart, placerFault, advanceFault, endRowFault, zeroPlacer, placerAnswer, changed};
+
+// The grid's share of the state's number.
+fn grid_part(placer: Placer) -> u8
+    ensures { λ n. ⌜ n ≡ gridPart placer ⌝ }
+{
+    let l = placer.layout;
+    let d = l.main_dir;
+    if placer.has_grid {
+        return lesser_number(grid_fault(placer.grid), direction_fault(d));
+    }
+    0
+}
+
+pub fn placer_fault(placer: Placer) -> u8
+    ensures { λ n. ⌜ n ≡ placerFault placer ⌝ }
+{
+    let l = placer.layout;
+    let d = l.main_dir;
+    lesser_number(region_fault(d, placer.region), grid_part(placer))
+}
+
+pub fn advance_fault(placer: Placer) -> u8
+    ensures { λ n. ⌜ n ≡ advanceFault placer ⌝ }
+{
+    let g = placer.grid;
+    lesser_number(
+        number_when(placer.has_grid & (MAX_COLS <= g.col), 8),
+        number_when(placer.has_grid & (MAX_ROWS <= g.row), 8),
+    )
+}
+
+pub fn end_row_fault(placer: Placer) -> u8
+    ensures { λ n. ⌜ n ≡ endRowFault placer ⌝ }
+{
+    let g = placer.grid;
+    number_when(placer.has_grid & (MAX_ROWS <= g.row), 8)
+}
+
+// What `new` answers when it is refused.
+pub fn zero_placer(layout: Layout) -> Placer
+    ensures { λ p. ⌜ p ≡ zeroPlacer layout ⌝ }
+{
+    let g = empty_grid();
+    let r = zero_region();
+    Placer {
+        has_grid: false,
+        grid: g,
+        layout: layout,
+        region: r,
+    }
+}
+
+pub fn placer_answer(n: u8, given: Placer, new: Placer) -> PlacerAnswer
+    ensures { λ a. ⌜ a ≡ placerAnswer n given new ⌝ }
+{
+    if n == 0 {
+        PlacerAnswer {
+            number: n,
+            placer: new,
+        }
+    } else {
+        PlacerAnswer {
+            number: n,
+            placer: given,
+        }
+    }
+}
+
+// `before` is the arguments' number.
+pub fn changed_placer(before: u8, given: Placer, new: Placer) -> PlacerAnswer
+    ensures { λ a. ⌜ a ≡ changed before given new ⌝ }
+{
+    placer_answer(
+        or_else(before, outside_domain(placer_fault(new))),
+        given,
+        new,
+    )
+}

@@ -1,0 +1,26 @@
+// egui's placer.rs: a layout or a grid, with the region that it fills.
+// The unchecked rules are total functions, in `rules` and `limits`; `operations` holds the public calls, which refuse by document 01's
+// table with the numbers of `faults`.
+use grid::GridLayout;
+use layout::Layout;
+use layout::Region;
+
+pub mod faults;
+mod inspectors;
+pub mod limits;
+mod operations;
+pub mod rules;
+
+pub struct Placer {
+    // Whether there is a grid, which then takes precedence over the layout.
+    pub has_grid: bool,
+    pub grid: GridLayout,
+    pub layout: Layout,
+    pub region: Region,
+}
+
+// A call that changes a placer: its number (0: none), and the placer, the given one where it is refused.
+pub struct PlacerAnswer {
+    pub number: u8,
+    pub placer: Placer,
+}

@@ -36,11 +36,11 @@ pub record GridRegion (k : ℕ) (d : Direction) (g : Region) : Type 0 where
   pub outer : GridRect k (g .«max_rect»)
   pub cursor : GridCursor k d (g .cursor)
 
-neg-infinity : neg infinity ≡ inf true
+pub neg-infinity : neg infinity ≡ inf true
 unfolding neg
 neg-infinity = refl
 
-eq-inf-is : (t : Bool) (v : Float) → eq v (inf t) ≡ true → v ≡ inf t
+pub eq-inf-is : (t : Bool) (v : Float) → eq v (inf t) ≡ true → v ≡ inf t
 unfolding eq
 eq-inf-is t nan h = absurd (true≢false (sym h))
 eq-inf-is true (inf true) h = refl

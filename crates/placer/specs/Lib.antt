@@ -2,3 +2,4 @@
 pub mod Rules
 pub mod Refusals
 pub mod Operations
+pub mod Steps

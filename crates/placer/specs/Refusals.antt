@@ -1,6 +1,6 @@
 -- Document 01, "Turned back", for a placer.
 use Prim.Native.Nat.{ℕ}
-use mathlib.Core.Bool.{Bool, false, cond, _&&_}
+use mathlib.Core.Bool.{false, cond, _&&_}
 use mathlib.Core.List.{[], _∷_}
 use lib.Dec.{eqb, leb}
 use Rattle.emath.specs.Refusals.{when, least, orElse, outside}

@@ -1,0 +1,3 @@
+-- The laws, in the order of the argument. Layers above cite them as Rattle.placer.proofs.NAME.
+pub mod Accepted
+pub mod WholePlacers

@@ -1,6 +1,10 @@
 // Entry points for the comparison with the Rust: tests only.
 // Each crate has its own file; what they share is here.
 mod emath_ops;
+mod grid_memory;
+mod grid_moves;
+mod grid_ops;
+mod grids;
 mod layout_fields;
 mod layout_ops;
 

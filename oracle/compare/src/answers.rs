@@ -4,30 +4,34 @@ use std::cell::Cell;
 
 use crate::faults;
 use crate::rng::Rng;
-use crate::tally::{Answer, Shown, Tally};
+use crate::tally::{Answer, Shown, Tally, Value};
 use crate::values::Values;
 
 /// What document 01 makes of a call.
-pub struct Expected<const N: usize> {
-    /// The number of each argument, a region's three apart; 0 where there is no more.
-    arguments: [u8; 5],
+pub struct Expected<V> {
+    /// The number of each argument, the parts of a region or a grid apart; 0 where there is no more.
+    arguments: [u8; MOST_PARTS],
     /// The number of what the Rust answers, 9 or 10, or 0.
     answer: u8,
     /// What the Rust answers.
-    value: [f32; N],
+    value: V,
     /// "an all-zero rectangle, position or size, and the state as given".
-    refused: [f32; N],
+    refused: V,
 }
 
-impl<const N: usize> Expected<N> {
+const MOST_PARTS: usize = 12;
+
+impl<const N: usize> Expected<[f32; N]> {
     /// A call that makes a rectangle, a position, a size or a first state.
     pub fn made(numbers: &[u8], answer: u8, value: [f32; N]) -> Self {
         Self::changed(numbers, answer, value, [0.0; N])
     }
+}
 
+impl<V: Clone> Expected<V> {
     /// A call that changes the state it is given.
-    pub fn changed(numbers: &[u8], answer: u8, value: [f32; N], given: [f32; N]) -> Self {
-        let mut arguments = [0; 5];
+    pub fn changed(numbers: &[u8], answer: u8, value: V, given: V) -> Self {
+        let mut arguments = [0; MOST_PARTS];
         arguments[..numbers.len()].copy_from_slice(numbers);
         Self {
             arguments,
@@ -35,6 +39,15 @@ impl<const N: usize> Expected<N> {
             value,
             refused: given,
         }
+    }
+
+    /// The same, where the Rust is asked only if no argument has a fault: it would run out of room.
+    pub fn asked(numbers: &[u8], given: V, rust: impl FnOnce() -> (u8, V)) -> Self {
+        let (answer, value) = match faults::least(numbers) {
+            0 => rust(),
+            _ => (0, given.clone()),
+        };
+        Self::changed(numbers, answer, value, given)
     }
 
     /// Arguments first, "in rising order"; the answer is looked at only if they have no fault.
@@ -45,14 +58,17 @@ impl<const N: usize> Expected<N> {
         }
     }
 
-    fn answer(&self) -> Answer<N> {
+    pub fn answer(&self) -> Answer<V> {
         let number = self.number();
         let value = if number == 0 {
-            self.value
+            &self.value
         } else {
-            self.refused
+            &self.refused
         };
-        Answer { number, value }
+        Answer {
+            number,
+            value: value.clone(),
+        }
     }
 
     /// Two arguments that have different faults: here the order shows.
@@ -70,7 +86,7 @@ struct Counts {
 }
 
 impl Counts {
-    fn note<const N: usize>(&self, expected: &Expected<N>) {
+    fn note<V: Clone>(&self, expected: &Expected<V>) {
         let count = &self.numbers[usize::from(expected.number())];
         count.set(count.get() + 1);
         if expected.is_mixed() {
@@ -79,8 +95,10 @@ impl Counts {
     }
 
     fn show(&self) -> String {
-        let counted = |n: usize| format!("{n}: {}", self.numbers[n].get());
-        let refused = [4, 5, 6, 9, 10].map(counted).join(", ");
+        // 7 and 8 are a grid's.
+        let shown = (4..=10).filter(|&n| !(7..=8).contains(&n) || self.numbers[n].get() != 0);
+        let counted = shown.map(|n| format!("{n}: {}", self.numbers[n].get()));
+        let refused = counted.collect::<Vec<_>>().join(", ");
         let (accepted, mixed) = (self.numbers[0].get(), self.mixed.get());
         format!("  accepted {accepted}; refused {refused}; two faults at once {mixed}")
     }
@@ -97,12 +115,12 @@ pub struct Operation<'a> {
 impl Tally {
     /// Compares on drawn arguments, and fails where fewer than a third of the calls are accepted or
     /// a number does not turn up.
-    pub fn answered<I: Shown, const N: usize>(
+    pub fn answered<I: Shown, V: Value + Clone>(
         &mut self,
         operation: &Operation<'_>,
         draw: impl Fn(&mut Values) -> I,
-        rattle: impl Fn(&I) -> Answer<N>,
-        rust: impl Fn(&I) -> Expected<N>,
+        rattle: impl Fn(&I) -> Answer<V>,
+        rust: impl Fn(&I) -> Expected<V>,
     ) {
         let name = operation.name;
         let counts = Counts::default();

@@ -110,3 +110,37 @@ pub fn of_frame(rect: &Edges) -> u8 {
     let outside = !is_finite(rect) || !is_within(rect);
     turned_back(&[(9, outside), (10, is_inside_out(rect))])
 }
+
+/// "Remembered column widths (at most 32) and row heights (at most 128)".
+pub const COLUMNS: usize = 32;
+pub const ROWS: usize = 128;
+
+/// 8: "a state's column or column count above 32, or row or row count above 128".
+pub fn of_places(column: usize, row: usize) -> u8 {
+    turned_back(&[(8, column > COLUMNS || row > ROWS)])
+}
+
+/// 8: "an advance (so a W) at column 32 or row 128".
+pub fn of_room(column: usize, row: usize) -> u8 {
+    turned_back(&[(8, column == COLUMNS || row == ROWS)])
+}
+
+/// Of a memory: its entries are remembered widths and heights, those beyond a count are not read.
+pub fn of_memory(widths: &[f32; 32], heights: &[f32; 128], &[columns, rows]: &[usize; 2]) -> u8 {
+    least(&[
+        of_sizes(&widths[..columns.min(COLUMNS)]),
+        of_sizes(&heights[..rows.min(ROWS)]),
+        of_places(columns, rows),
+    ])
+}
+
+/// "a maximum cell size may be positive infinity"; else a cell size like the minimum.
+pub fn of_max_cell(size: &[f32]) -> u8 {
+    let excused = |x: f32| if x == f32::INFINITY { 0.0 } else { x };
+    of_sizes(&[excused(size[0]), excused(size[1])])
+}
+
+/// 7: "grid on direction 1 or 3".
+pub fn of_direction(direction: u8) -> u8 {
+    turned_back(&[(7, direction == 1 || direction == 3)])
+}

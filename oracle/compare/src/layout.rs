@@ -5,7 +5,7 @@ mod faulty;
 mod fields;
 mod frames;
 mod regions;
-mod states;
+pub mod states;
 
 use egui::layout::Layout;
 use egui::{Align, Direction};
@@ -61,6 +61,6 @@ fn numbered(n: u32) -> Fields {
     [n % 4, n / 4 % 2, n / 8 % 3, n / 24 % 2, n / 48 % 3, n / 144].map(|field| field as u8)
 }
 
-fn pair(&[x, y]: &[f32; 2]) -> Vec2 {
+pub fn pair(&[x, y]: &[f32; 2]) -> Vec2 {
     vec2(x, y)
 }

@@ -1,14 +1,16 @@
-//! Compares the entry points of crates/probe with layout.rs, with the Rust stand-ins and with
-//! document 01's table.
+//! Compares the entry points of crates/probe with layout.rs and grid.rs, with the Rust stand-ins and
+//! with document 01's table.
 
-// Without layout.rs some of what the comparisons share has no use.
-#![cfg_attr(not(feature = "layout"), allow(dead_code))]
+// Without grid.rs some of what the comparisons share has no use.
+#![cfg_attr(not(feature = "grid"), allow(dead_code))]
 
 mod answers;
 mod emath_align;
 mod emath_domain;
 mod emath_ops;
 mod faults;
+#[cfg(feature = "grid")]
+mod grid;
 #[cfg(feature = "layout")]
 mod layout;
 mod probe;
@@ -24,7 +26,9 @@ use tally::Tally;
 const SEED: u64 = 1;
 
 /// A run that compares fewer has gone wrong, whatever it found.
-const FEWEST: u64 = if cfg!(feature = "layout") {
+const FEWEST: u64 = if cfg!(feature = "grid") {
+    30_000_000
+} else if cfg!(feature = "layout") {
     20_000_000
 } else {
     2_000_000
@@ -60,6 +64,8 @@ fn main() -> ExitCode {
     emath_domain::compare(&mut tally);
     #[cfg(feature = "layout")]
     layout::compare(&mut tally);
+    #[cfg(feature = "grid")]
+    grid::compare(&mut tally);
     let Tally {
         cases,
         differences,

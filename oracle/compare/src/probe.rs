@@ -216,10 +216,10 @@ unsafe extern "C" {
     ) -> u8;
 }
 
-const UNTOUCHED: f32 = 1.234_567_8e-30;
+pub const UNTOUCHED: f32 = 1.234_567_8e-30;
 
 /// What a call writes, and the number it gives.
-pub fn answered<const N: usize>(call: impl FnOnce(&mut [f32; N]) -> u8) -> Answer<N> {
+pub fn answered<const N: usize>(call: impl FnOnce(&mut [f32; N]) -> u8) -> Answer<[f32; N]> {
     let mut value = [UNTOUCHED; N];
     let number = call(&mut value);
     Answer { number, value }

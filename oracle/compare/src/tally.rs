@@ -48,6 +48,12 @@ impl Shown for bool {
     }
 }
 
+impl Shown for usize {
+    fn show(&self) -> String {
+        self.to_string()
+    }
+}
+
 impl Shown for () {
     fn show(&self) -> String {
         "nothing".into()
@@ -91,25 +97,37 @@ impl<A: Shown, B: Shown, C: Shown> Shown for (A, B, C) {
     }
 }
 
-/// The answer of a call that can be turned back: its number, and what it carries.
-pub struct Answer<const N: usize> {
-    pub number: u8,
-    pub value: [f32; N],
+/// What an answer carries.
+pub trait Value: Same {
+    /// The same, every bit.
+    fn identical(&self, other: &Self) -> bool;
 }
 
-impl<const N: usize> Shown for Answer<N> {
+impl<const N: usize> Value for [f32; N] {
+    fn identical(&self, other: &Self) -> bool {
+        self.map(f32::to_bits) == other.map(f32::to_bits)
+    }
+}
+
+/// The answer of a call that can be turned back: its number, and what it carries.
+pub struct Answer<V> {
+    pub number: u8,
+    pub value: V,
+}
+
+impl<V: Shown> Shown for Answer<V> {
     fn show(&self) -> String {
         format!("number {}, {}", self.number, self.value.show())
     }
 }
 
 /// After a refusal the state is "as given", so every bit counts.
-impl<const N: usize> Same for Answer<N> {
+impl<V: Value> Same for Answer<V> {
     fn same(&self, other: &Self) -> bool {
         let values = if self.number == 0 {
             self.value.same(&other.value)
         } else {
-            self.value.map(f32::to_bits) == other.value.map(f32::to_bits)
+            self.value.identical(&other.value)
         };
         self.number == other.number && values
     }
@@ -169,18 +187,21 @@ impl Tally {
         for case in cases {
             compared += 1;
             let (ours, theirs) = (rattle(&case), rust(&case));
-            if ours.same(&theirs) {
-                continue;
-            }
-            differing += 1;
-            if self.differences + differing <= SHOWN {
-                println!("differs: {name} of {}", case.show());
-                println!("  Rattle {}", ours.show());
-                println!("  Rust   {}", theirs.show());
-            }
+            differing += u64::from(!self.agree(name, &case, &ours, &theirs));
         }
         println!("{name}: {compared} cases, {differing} differ");
-        self.cases += compared;
-        self.differences += differing;
+    }
+
+    /// Counts one case, and shows it where the two sides differ.
+    pub fn agree<I: Shown, T: Same>(&mut self, name: &str, case: &I, ours: &T, theirs: &T) -> bool {
+        self.cases += 1;
+        let same = ours.same(theirs);
+        self.differences += u64::from(!same);
+        if !same && self.differences <= SHOWN {
+            println!("differs: {name} of {}", case.show());
+            println!("  Rattle {}", ours.show());
+            println!("  Rust   {}", theirs.show());
+        }
+        same
     }
 }

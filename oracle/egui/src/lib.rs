@@ -1,6 +1,10 @@
-//! egui's layout.rs, compiled as it is, with stand-ins for what it takes from its own crate.
+//! egui's layout.rs and grid.rs, compiled as they are, with stand-ins for what they take from their
+//! own crate.
 //!
-//! The file is not kept here: `oracle/run` copies it to the folder named by EGUI_COPY.
+//! The files are not kept here: `oracle/run` copies them to the folder named by EGUI_COPY.
+
+#[cfg(feature = "grid")]
+extern crate alloc;
 
 mod direction;
 
@@ -10,5 +14,26 @@ pub mod layout {
     pub mod driver;
 }
 
+#[cfg(feature = "grid")]
+pub mod grid {
+    include!(concat!(env!("EGUI_COPY"), "/grid.rs"));
+
+    pub mod driver;
+}
+
+#[cfg(feature = "grid")]
+mod context;
+#[cfg(feature = "grid")]
+mod ui;
+
+#[cfg(feature = "grid")]
+pub use {
+    context::{Context, Id},
+    emath::{Align2, NumExt, Rect, Vec2, vec2},
+    ui::{AsIdSalt, Color32, IdSalt, InnerResponse, Painter, Style, Ui, UiBuilder},
+};
+
 pub use direction::Direction;
 pub use emath::{self, Align};
+#[cfg(feature = "grid")]
+pub(crate) use layout::Region;

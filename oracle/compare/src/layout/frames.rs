@@ -63,7 +63,7 @@ fn framed(v: &mut Values) -> (Fields, Edges, [f32; 2]) {
 }
 
 /// A rectangle that is no frame.
-fn placed(numbers: &[u8], r: emath::Rect) -> Expected<4> {
+fn placed(numbers: &[u8], r: emath::Rect) -> Expected<Edges> {
     let r = edges(r);
     Expected::made(numbers, of_answer(of_lengths(&r)), r)
 }

@@ -39,7 +39,7 @@ use Rattle.layout.specs.declared.Region.{Region}
 use Rattle.placer.specs.declared.Placer.{Placer}
 
 -- ---- whole wherever it is within the limit: an infinity and a NaN are so, and every rounded edge
-abbrev WholeIf : ℕ → Float → Type 0
+abbrev pub WholeIf : ℕ → Float → Type 0
 WholeIf k v = T (within v) → Edge k v
 
 no-inf : (t : Bool) → T (within (inf t)) → ⊥
@@ -48,7 +48,7 @@ no-inf true u = u
 no-inf false u = u
 
 module _ (k : ℕ) (l : k ≤ 6) where
-  edge-whole-if : {v : Float} → Edge k v → WholeIf k v
+  pub edge-whole-if : {v : Float} → Edge k v → WholeIf k v
   edge-whole-if e t = e
 
   round-whole-if : (x : Float) → WholeIf k (roundUi k x)
@@ -58,10 +58,10 @@ module _ (k : ℕ) (l : k ≤ 6) where
   either z x y f g (inl e) t = rw e (f (rw e at t))
   either z x y f g (inr e) t = rw e (g (rw e at t))
 
-  min-whole-if : {x y : Float} → WholeIf k x → WholeIf k y → WholeIf k (minF x y)
+  pub min-whole-if : {x y : Float} → WholeIf k x → WholeIf k y → WholeIf k (minF x y)
   min-whole-if {x} {y} f g = either (minF x y) x y f g (min-one-of x y)
 
-  max-whole-if : {x y : Float} → WholeIf k x → WholeIf k y → WholeIf k (maxF x y)
+  pub max-whole-if : {x y : Float} → WholeIf k x → WholeIf k y → WholeIf k (maxF x y)
   max-whole-if {x} {y} f g = either (maxF x y) x y f g (max-one-of x y)
 
   zero-whole-if : WholeIf k zeroF
@@ -77,18 +77,18 @@ module _ (k : ℕ) (l : k ≤ 6) where
       go false = f
 
   -- ---- a region's edges, each whole if it is within the limit
-  record RectIf (r : Rect) : Type 0 where
+  pub record RectIf (r : Rect) : Type 0 where
     pub left : WholeIf k (r .left)
     pub top : WholeIf k (r .top)
     pub right : WholeIf k (r .right)
     pub bottom : WholeIf k (r .bottom)
 
-  record RegionIf (g : Region) : Type 0 where
+  pub record RegionIf (g : Region) : Type 0 where
     pub inner : RectIf (g .«min_rect»)
     pub outer : RectIf (g .«max_rect»)
     pub cursor : RectIf (g .cursor)
 
-  rect-whole : (r : Rect) → RectIf r → edgesFault r ≡ 0 → WholeRect k r
+  pub rect-whole : (r : Rect) → RectIf r → edgesFault r ≡ 0 → WholeRect k r
   rect-whole r w h =
       let i = edges-within r h in
       record { left = w .left (i .left); top = w .top (i .top); right = w .right (i .right); bottom = w .bottom (i .bottom) }
@@ -100,7 +100,7 @@ module _ (k : ℕ) (l : k ≤ 6) where
   closed-if TopDown c w = record { left = w .left; top = w .top; right = w .right; bottom = open-whole-if infinity (w .bottom) }
   closed-if BottomUp c w = record { left = w .left; top = open-whole-if (neg infinity) (w .top); right = w .right; bottom = w .bottom }
 
-  region-whole : (d : Direction) (g : Region) → RegionIf g → regionFault d g ≡ 0 → WholeRegion k d g
+  pub region-whole : (d : Direction) (g : Region) → RegionIf g → regionFault d g ≡ 0 → WholeRegion k d g
   region-whole d g w h =
       let p = region-none d g h in
       record {
@@ -118,55 +118,55 @@ module _ (k : ℕ) (l : k ≤ 6) where
       go true f e u = absurd (no-inf t (rw (f refl) at u))
       go false f e u = e
 
-  rect-if : (r : Rect) → WholeRect k r → RectIf r
+  pub rect-if : (r : Rect) → WholeRect k r → RectIf r
   rect-if r w = record { left = edge-whole-if (w .left); top = edge-whole-if (w .top); right = edge-whole-if (w .right); bottom = edge-whole-if (w .bottom) }
 
-  cursor-if : (d : Direction) (c : Rect) → WholeRect k (closed d c) → RectIf c
+  pub cursor-if : (d : Direction) (c : Rect) → WholeRect k (closed d c) → RectIf c
   unfolding closed
   cursor-if LeftToRight c w = record { left = edge-whole-if (w .left); top = edge-whole-if (w .top); right = unopened false (c .right) (w .right); bottom = edge-whole-if (w .bottom) }
   cursor-if RightToLeft c w = record { left = unopened true (c .left) (rw neg-infinity at (w .left)); top = edge-whole-if (w .top); right = edge-whole-if (w .right); bottom = edge-whole-if (w .bottom) }
   cursor-if TopDown c w = record { left = edge-whole-if (w .left); top = edge-whole-if (w .top); right = edge-whole-if (w .right); bottom = unopened false (c .bottom) (w .bottom) }
   cursor-if BottomUp c w = record { left = edge-whole-if (w .left); top = unopened true (c .top) (rw neg-infinity at (w .top)); right = edge-whole-if (w .right); bottom = edge-whole-if (w .bottom) }
 
-  region-if : (d : Direction) (g : Region) → WholeRegion k d g → RegionIf g
+  pub region-if : (d : Direction) (g : Region) → WholeRegion k d g → RegionIf g
   region-if d g w = record { inner = rect-if (g .«min_rect») (w .inner); outer = rect-if (g .«max_rect») (w .outer); cursor = cursor-if d (g .cursor) (w .cursor) }
 
   -- ---- the rectangle of the next widget is rounded
-  space-if : (p : Placer) (s : Vec2) → RectIf (nextWidgetSpaceIgnoreWrapJustify k p s)
+  pub space-if : (p : Placer) (s : Vec2) → RectIf (nextWidgetSpaceIgnoreWrapJustify k p s)
   unfolding nextWidgetSpaceIgnoreWrapJustify layout-rules.nextWidgetSpaceIgnoreWrapJustify layout-rules.alignSizeWithinRect roundRect
   space-if p s =
       let r = alignWithin (align2 (p .layout)) s (layout-rules.nextFrameIgnoreWrap k (p .layout) (p .region) s) in
       record { left = round-whole-if (r .left); top = round-whole-if (r .top); right = round-whole-if (r .right); bottom = round-whole-if (r .bottom) }
 
   -- ---- calls that only grow or limit the region
-  union-if : (a b : Rect) → RectIf a → RectIf b → RectIf (union a b)
+  pub union-if : (a b : Rect) → RectIf a → RectIf b → RectIf (union a b)
   unfolding union
   union-if a b v w = record { left = min-whole-if (v .left) (w .left); top = min-whole-if (v .top) (w .top); right = max-whole-if (v .right) (w .right); bottom = max-whole-if (v .bottom) (w .bottom) }
 
-  x-if : (r : Rect) (x : Float) → RectIf r → WholeIf k x → RectIf (extendWithX r x)
+  pub x-if : (r : Rect) (x : Float) → RectIf r → WholeIf k x → RectIf (extendWithX r x)
   unfolding extendWithX
   x-if r x w e = record { left = min-whole-if (w .left) e; top = w .top; right = max-whole-if (w .right) e; bottom = w .bottom }
 
-  y-if : (r : Rect) (y : Float) → RectIf r → WholeIf k y → RectIf (extendWithY r y)
+  pub y-if : (r : Rect) (y : Float) → RectIf r → WholeIf k y → RectIf (extendWithY r y)
   unfolding extendWithY
   y-if r y w e = record { left = w .left; top = min-whole-if (w .top) e; right = w .right; bottom = max-whole-if (w .bottom) e }
 
-  region-x : (g : Region) (x : Float) → RegionIf g → WholeIf k x → RegionIf (layout-rules.expandToIncludeX g x)
+  pub region-x : (g : Region) (x : Float) → RegionIf g → WholeIf k x → RegionIf (layout-rules.expandToIncludeX g x)
   unfolding layout-rules.expandToIncludeX
   region-x g x w e = record { inner = x-if (g .«min_rect») x (w .inner) e; outer = x-if (g .«max_rect») x (w .outer) e; cursor = x-if (g .cursor) x (w .cursor) e }
 
-  region-y : (g : Region) (y : Float) → RegionIf g → WholeIf k y → RegionIf (layout-rules.expandToIncludeY g y)
+  pub region-y : (g : Region) (y : Float) → RegionIf g → WholeIf k y → RegionIf (layout-rules.expandToIncludeY g y)
   unfolding layout-rules.expandToIncludeY
   region-y g y w e = record { inner = y-if (g .«min_rect») y (w .inner) e; outer = y-if (g .«max_rect») y (w .outer) e; cursor = y-if (g .cursor) y (w .cursor) e }
 
-  limited-across : (g : Region) (r : Rect) → RegionIf g → RectIf r → RegionIf (limitedAcross g r)
+  pub limited-across : (g : Region) (r : Rect) → RegionIf g → RectIf r → RegionIf (limitedAcross g r)
   unfolding limitedAcross
   limited-across g r w e =
       let m = union-if (record { left = r .left; top = g .«max_rect» .top; right = r .right; bottom = g .«max_rect» .bottom }) (g .«min_rect»)
       (record { left = e .left; top = w .outer .top; right = e .right; bottom = w .outer .bottom }) (w .inner) in
       record { inner = w .inner; outer = m; cursor = record { left = m .left; top = w .cursor .top; right = m .right; bottom = w .cursor .bottom } }
 
-  limited-down : (g : Region) (r : Rect) → RegionIf g → RectIf r → RegionIf (limitedDown g r)
+  pub limited-down : (g : Region) (r : Rect) → RegionIf g → RectIf r → RegionIf (limitedDown g r)
   unfolding limitedDown
   limited-down g r w e =
       let m = union-if (record { left = g .«max_rect» .left; top = r .top; right = g .«max_rect» .right; bottom = r .bottom }) (g .«min_rect»)

@@ -3,5 +3,6 @@ pub mod Accepted
 pub mod WholePlacers
 pub mod WholeCalls
 pub mod WholeGrids
+pub mod WholeHeights
 pub mod WholeTopsCalls
 pub mod Kept

@@ -64,7 +64,7 @@ module _ (k : ℕ) (l : k ≤ 6) where
   pub max-whole-if : {x y : Float} → WholeIf k x → WholeIf k y → WholeIf k (maxF x y)
   max-whole-if {x} {y} f g = either (maxF x y) x y f g (max-one-of x y)
 
-  zero-whole-if : WholeIf k zeroF
+  pub zero-whole-if : WholeIf k zeroF
   zero-whole-if t = grid-edge k (omega arith) (zero-grid k (omega arith)) t
 
   -- an open edge, excused or not

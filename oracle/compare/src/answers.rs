@@ -80,13 +80,13 @@ impl<V: Clone> Expected<V> {
 
 /// The calls of one operation, by number; 0 is for the accepted.
 #[derive(Default)]
-struct Counts {
+pub struct Counts {
     numbers: [Cell<u64>; 11],
     mixed: Cell<u64>,
 }
 
 impl Counts {
-    fn note<V: Clone>(&self, expected: &Expected<V>) {
+    pub fn note<V: Clone>(&self, expected: &Expected<V>) {
         let count = &self.numbers[usize::from(expected.number())];
         count.set(count.get() + 1);
         if expected.is_mixed() {
@@ -132,7 +132,14 @@ impl Tally {
             counts.note(&expected);
             expected.answer()
         });
+        self.judge(operation, &counts);
+    }
+
+    /// Shows the counts, and what is lacking among them.
+    pub fn judge(&mut self, operation: &Operation<'_>, counts: &Counts) {
+        let name = operation.name;
         println!("{}", counts.show());
+        let calls: u64 = counts.numbers.iter().map(Cell::get).sum();
         if counts.numbers[0].get() * 3 < calls {
             self.lacking(&format!("{name}: fewer than a third were accepted"));
         }

@@ -4,7 +4,7 @@ use std::cell::Cell;
 
 use egui::grid::driver::{Grid, Memory};
 
-use super::{Saved, counted, is_clear};
+use super::{Saved, counted, number_of_memory};
 use crate::tally::{Same, Tally};
 
 #[derive(Clone, Copy)]
@@ -23,10 +23,11 @@ pub enum Corner {
     SavedZeros,
     NotRead,
     NotKnown,
+    KnownEmpty,
     SecondSame,
 }
 
-const WORDS: [&str; 15] = [
+const WORDS: [&str; 16] = [
     "the last column named, in a first pass",
     "the last column named, later",
     "a finite maximum cell, not in the last column",
@@ -41,6 +42,7 @@ const WORDS: [&str; 15] = [
     "save of memories that differ in a zero's sign only, the flag clear",
     "a memory accepted with NaN beyond its counts",
     "a faulty memory not known, and so not read",
+    "a memory known with both counts 0, and so no first pass",
     "a second pass that saves nothing new",
 ];
 
@@ -121,7 +123,9 @@ impl Corners {
     }
 
     /// Of an accepted new.
-    pub fn new(&self, known: bool, number: u8, memory: &Memory) {
-        self.note(Corner::NotKnown, !known && number != 0 && !is_clear(memory));
+    pub fn new(&self, known: bool, memory: &Memory) {
+        let faulty = number_of_memory(memory) != 0;
+        self.note(Corner::NotKnown, !known && faulty);
+        self.note(Corner::KnownEmpty, known && memory.counts == [0; 2]);
     }
 }

@@ -185,7 +185,7 @@ pub fn compare(t: &mut Tally, corners: &Corners) {
         |n| {
             let expected = new(n, || running(n).grid());
             if expected.number() == 0 {
-                corners.new(n.known, number_of_memory(&n.memory), &n.memory);
+                corners.new(n.known, &n.memory);
             }
             expected
         },

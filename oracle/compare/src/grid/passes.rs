@@ -7,15 +7,21 @@ use egui::grid::driver::Running;
 use super::corners::{Corner, Corners};
 use super::states::begin;
 use super::{Moved, New, Saved, cells, moves, port};
-use crate::answers::Expected;
+use crate::answers::{Counts, Expected, Operation};
 use crate::faults::{ROWS, rect_of};
 use crate::layout::states::Draw;
 use crate::rng::Rng;
 use crate::tally::{Answer, Shown, Tally, Value};
 use crate::values::{Edges, Values};
 
-const NAME: &str = "GridLayout, whole passes";
-const PASSES: u64 = 100_000;
+/// 100,000 first passes or more. Their arguments are of the domain, so that few numbers turn up.
+const PASSES: Operation<'_> = Operation {
+    name: "GridLayout, whole passes",
+    thousands: 100,
+    numbers: &[8, 9],
+};
+
+/// The most calls between `new` and `save`.
 const CALLS: usize = 40;
 
 /// A step of a pass: a widget as a sheet's W places it, a widget placed anyhow, an end of row.
@@ -73,30 +79,52 @@ fn placed(d: &mut Draw<'_>) -> Step {
     Step::Placed(frame, d.rect())
 }
 
+/// One call of a pass.
+struct Call<'a> {
+    name: &'a str,
+    step: &'a Step,
+    dir: u8,
+    state: &'a Moved,
+}
+
+impl Shown for Call<'_> {
+    fn show(&self) -> String {
+        let Self {
+            name, step, dir, ..
+        } = self;
+        let (step, state) = (step.show(), self.state.show());
+        format!("{name}, {step}, direction {dir}, {state}")
+    }
+}
+
 /// The two sides, in the midst of a pass.
 struct Pass<'a> {
     t: &'a mut Tally,
-    new: &'a New,
+    dir: u8,
     /// The state of both, as they agree on it, with the bits of the port.
     state: Moved,
     rust: Running,
-    accepted: &'a mut u64,
+    counts: &'a Counts,
 }
 
 impl Pass<'_> {
     /// What both answer, if they agree.
     fn agreed<V: Value + Clone>(
         &mut self,
+        name: &str,
         step: &Step,
         ours: Answer<V>,
         theirs: &Expected<V>,
     ) -> Option<Answer<V>> {
-        let case = (step_in(step, self.new), self.state.clone());
-        if !self.t.agree(NAME, &case, &ours, &theirs.answer()) {
-            return None;
-        }
-        *self.accepted += u64::from(ours.number == 0);
-        Some(ours)
+        let call = Call {
+            name,
+            step,
+            dir: self.dir,
+            state: &self.state,
+        };
+        self.counts.note(theirs);
+        let same = self.t.agree(PASSES.name, &call, &ours, &theirs.answer());
+        same.then_some(ours)
     }
 
     /// A refused call leaves the state as it was, on both sides.
@@ -113,14 +141,14 @@ impl Pass<'_> {
             Step::Widget(size) => self.widget(step, size),
             Step::Placed(frame, widget) => self.advance(step, frame, widget),
             Step::RowEnd => {
-                let (dir, state) = (self.new.dir, &self.state);
+                let (dir, state) = (self.dir, &self.state);
                 let ours = port::end_row(&state.grid, dir, &state.cursor);
                 let rust = &mut self.rust;
                 let theirs = moves::end_row(state, dir, |c| {
                     let cursor = rust.end_row(c);
                     (rust.grid(), cursor)
                 });
-                let answer = self.agreed(step, ours, &theirs)?;
+                let answer = self.agreed("end_row", step, ours, &theirs)?;
                 self.moved(answer);
                 Some(())
             }
@@ -129,17 +157,17 @@ impl Pass<'_> {
 
     /// next_cell, justify_and_align, advance: as far as they are accepted.
     fn widget(&mut self, step: &Step, size: &[f32; 2]) -> Option<()> {
-        let (dir, Moved { grid, cursor }) = (self.new.dir, &self.state);
+        let (dir, Moved { grid, cursor }) = (self.dir, &self.state);
         let ours = port::next_cell(grid, dir, cursor, size);
         let theirs = cells::next_cell(grid, dir, cursor, size, |c, s| self.rust.next_cell(c, s));
-        let frame = self.agreed(step, ours, &theirs)?;
+        let frame = self.agreed("next_cell", step, ours, &theirs)?;
         if frame.number != 0 {
             return Some(());
         }
         let (frame, grid) = (frame.value, &self.state.grid);
         let ours = port::justify_and_align(grid, &frame, size);
         let theirs = cells::aligned(grid, &frame, size, |f, s| self.rust.justify_and_align(f, s));
-        let widget = self.agreed(step, ours, &theirs)?;
+        let widget = self.agreed("justify_and_align", step, ours, &theirs)?;
         if widget.number != 0 {
             return Some(());
         }
@@ -147,14 +175,14 @@ impl Pass<'_> {
     }
 
     fn advance(&mut self, step: &Step, frame: &Edges, widget: &Edges) -> Option<()> {
-        let (dir, state) = (self.new.dir, &self.state);
+        let (dir, state) = (self.dir, &self.state);
         let ours = port::advance(&state.grid, dir, &state.cursor, frame, widget);
         let rust = &mut self.rust;
         let theirs = moves::advance(state, dir, frame, widget, |c, f, w| {
             let cursor = rust.advance(c, f, w);
             (rust.grid(), cursor)
         });
-        let answer = self.agreed(step, ours, &theirs)?;
+        let answer = self.agreed("advance", step, ours, &theirs)?;
         self.moved(answer);
         Some(())
     }
@@ -162,39 +190,29 @@ impl Pass<'_> {
     fn save(&mut self) -> Option<Saved> {
         let ours = port::save(&self.state.grid);
         let theirs = moves::save(&self.state.grid, || moves::saved(&self.rust));
-        Some(self.agreed(&Step::RowEnd, ours, &theirs)?.value)
-    }
-}
-
-fn step_in(step: &Step, new: &New) -> (String, String) {
-    (step.show(), format!("direction {}", new.dir))
-}
-
-impl Shown for String {
-    fn show(&self) -> String {
-        self.clone()
+        Some(self.agreed("save", &Step::RowEnd, ours, &theirs)?.value)
     }
 }
 
 /// What the pass saved, where it was accepted and the two sides agree.
-fn pass(t: &mut Tally, new: &New, steps: &[Step], accepted: &mut u64) -> Option<Saved> {
+fn pass(t: &mut Tally, new: &New, steps: &[Step], counts: &Counts) -> Option<Saved> {
     let rust = moves::running(new);
     let ours = moves::made(new);
     let theirs = moves::new(new, || rust.grid());
-    if !t.agree(NAME, new, &ours, &theirs.answer()) || ours.number != 0 {
+    counts.note(&theirs);
+    if !t.agree(PASSES.name, new, &ours, &theirs.answer()) || ours.number != 0 {
         return None;
     }
-    *accepted += 1;
     let state = Moved {
         grid: ours.value,
         cursor: rect_of(&new.region, 2),
     };
     let mut pass = Pass {
         t,
-        new,
+        dir: new.dir,
         state,
         rust,
-        accepted,
+        counts,
     };
     for step in steps {
         pass.step(step)?;
@@ -204,9 +222,11 @@ fn pass(t: &mut Tally, new: &New, steps: &[Step], accepted: &mut u64) -> Option<
 
 pub fn compare(t: &mut Tally, corners: &Corners) {
     let (cases, differences) = (t.cases, t.differences);
-    let (mut accepted, mut seconds) = (0, 0_u64);
-    let mut values = Values::new(Rng::new(t.seed, NAME));
-    for _ in 0..PASSES * t.times {
+    let counts = Counts::default();
+    let firsts = PASSES.thousands * 1_000 * t.times;
+    let mut seconds = 0_u64;
+    let mut values = Values::new(Rng::new(t.seed, PASSES.name));
+    for _ in 0..firsts {
         let mut d = begin(&mut values);
         d.l[0] &= 2;
         let mut new = d.new_grid();
@@ -215,7 +235,7 @@ pub fn compare(t: &mut Tally, corners: &Corners) {
         }
         let steps = steps(&mut d);
         let again = d.v.rng.one_in(3);
-        let Some(saved) = pass(t, &new, &steps, &mut accepted) else {
+        let Some(saved) = pass(t, &new, &steps, &counts) else {
             continue;
         };
         if again {
@@ -223,16 +243,13 @@ pub fn compare(t: &mut Tally, corners: &Corners) {
             new.known = true;
             new.sizing_pass = false;
             new.memory = saved.memory;
-            let second = pass(t, &new, &steps, &mut accepted);
+            let second = pass(t, &new, &steps, &counts);
             let settled = second.is_some_and(|saved| saved.save == 0);
             corners.note(Corner::SecondSame, settled);
         }
     }
     let (calls, differ) = (t.cases - cases, t.differences - differences);
-    let passes = PASSES * t.times + seconds;
-    println!("{NAME}: {calls} cases in {passes} passes, {differ} differ");
-    println!("  accepted {accepted}");
-    if accepted * 3 < calls {
-        t.lacking("whole passes: fewer than a third of the calls were accepted");
-    }
+    let (name, passes) = (PASSES.name, firsts + seconds);
+    println!("{name}: {calls} cases in {passes} passes, {differ} differ");
+    t.judge(&PASSES, &counts);
 }

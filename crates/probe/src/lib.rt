@@ -7,6 +7,9 @@ mod grid_ops;
 mod grids;
 mod layout_fields;
 mod layout_ops;
+mod placer_moves;
+mod placer_ops;
+mod placers;
 
 use emath::Align;
 use emath::Align2;
@@ -213,8 +216,7 @@ fn answer_size(out: &mut [f32; 2], a: SizeAnswer) -> u8 {
     }
 }
 
-fn answer_region(out: &mut [f32; 12], a: RegionAnswer) -> u8 {
-    let g = a.region;
+fn put_region(out: &mut [f32; 12], g: Region) {
     out[0] = g.min_rect.left;
     out[1] = g.min_rect.top;
     out[2] = g.min_rect.right;
@@ -227,5 +229,9 @@ fn answer_region(out: &mut [f32; 12], a: RegionAnswer) -> u8 {
     out[9] = g.cursor.top;
     out[10] = g.cursor.right;
     out[11] = g.cursor.bottom;
+}
+
+fn answer_region(out: &mut [f32; 12], a: RegionAnswer) -> u8 {
+    put_region(out, a.region);
     a.number
 }

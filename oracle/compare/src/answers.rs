@@ -19,7 +19,7 @@ pub struct Expected<V> {
     refused: V,
 }
 
-const MOST_PARTS: usize = 12;
+const MOST_PARTS: usize = 20;
 
 impl<const N: usize> Expected<[f32; N]> {
     /// A call that makes a rectangle, a position, a size or a first state.

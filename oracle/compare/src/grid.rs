@@ -5,9 +5,9 @@ mod corners;
 mod memories;
 mod moves;
 mod passes;
-mod port;
-mod probe;
-mod states;
+pub mod port;
+pub mod probe;
+pub mod states;
 
 use egui::grid::driver::{Grid, Memory};
 
@@ -27,16 +27,16 @@ pub fn compare(t: &mut Tally) {
 
 /// A grid, and the cursor that it moves.
 #[derive(Clone)]
-struct Moved {
-    grid: Grid,
-    cursor: Edges,
+pub struct Moved {
+    pub grid: Grid,
+    pub cursor: Edges,
 }
 
 /// What `save` gives: the memory, and 1 where it is to be saved.
 #[derive(Clone)]
-struct Saved {
-    memory: Memory,
-    save: u8,
+pub struct Saved {
+    pub memory: Memory,
+    pub save: u8,
 }
 
 /// What `new` is given: the options are the spacing, the minimum and the maximum cell.
@@ -53,7 +53,7 @@ pub struct New {
 }
 
 /// "a grid of zeros", which a refused `new` gives.
-const NO_GRID: Grid = Grid {
+pub const NO_GRID: Grid = Grid {
     prev: Memory::EMPTY,
     curr: Memory::EMPTY,
     lengths: [0.0; 10],
@@ -64,12 +64,12 @@ const NO_GRID: Grid = Grid {
     row: 0,
 };
 
-fn number_of_memory(m: &Memory) -> u8 {
+pub fn number_of_memory(m: &Memory) -> u8 {
     of_memory(&m.widths, &m.heights, &m.counts)
 }
 
 /// Of a grid's parts. initial_available may be inside out, as the cursor may.
-fn numbers_of_grid(g: &Grid) -> [u8; 7] {
+pub fn numbers_of_grid(g: &Grid) -> [u8; 7] {
     [
         number_of_memory(&g.prev),
         number_of_memory(&g.curr),
@@ -106,7 +106,7 @@ fn is_clear(m: &Memory) -> bool {
 }
 
 /// A memory that was given with something beyond its counts may keep it there: that is put aside.
-fn set_aside(given: &Memory, m: &mut Memory) {
+pub fn set_aside(given: &Memory, m: &mut Memory) {
     if is_clear(given) {
         return;
     }

@@ -2,7 +2,7 @@
 
 mod corners;
 mod faulty;
-mod fields;
+pub mod fields;
 mod frames;
 mod regions;
 pub mod states;
@@ -33,7 +33,7 @@ fn direction(n: u8) -> Direction {
     ][usize::from(n)]
 }
 
-fn layout(&[dir, wrap, main, main_justify, cross, cross_justify]: &Fields) -> Layout {
+pub fn layout(&[dir, wrap, main, main_justify, cross, cross_justify]: &Fields) -> Layout {
     Layout {
         main_dir: direction(dir),
         main_wrap: wrap != 0,

@@ -1,8 +1,8 @@
-//! Compares the entry points of crates/probe with layout.rs and grid.rs, with the Rust stand-ins and
-//! with document 01's table.
+//! Compares the entry points of crates/probe with layout.rs, grid.rs and placer.rs, with the Rust
+//! stand-ins and with document 01's table.
 
-// Without grid.rs some of what the comparisons share has no use.
-#![cfg_attr(not(feature = "grid"), allow(dead_code))]
+// Without placer.rs some of what the comparisons share has no use.
+#![cfg_attr(not(feature = "placer"), allow(dead_code))]
 
 mod answers;
 mod emath_align;
@@ -13,6 +13,8 @@ mod faults;
 mod grid;
 #[cfg(feature = "layout")]
 mod layout;
+#[cfg(feature = "placer")]
+mod placer;
 mod probe;
 mod rng;
 mod tally;
@@ -26,7 +28,9 @@ use tally::Tally;
 const SEED: u64 = 1;
 
 /// A run that compares fewer has gone wrong, whatever it found.
-const FEWEST: u64 = if cfg!(feature = "grid") {
+const FEWEST: u64 = if cfg!(feature = "placer") {
+    40_000_000
+} else if cfg!(feature = "grid") {
     30_000_000
 } else if cfg!(feature = "layout") {
     20_000_000
@@ -66,6 +70,8 @@ fn main() -> ExitCode {
     layout::compare(&mut tally);
     #[cfg(feature = "grid")]
     grid::compare(&mut tally);
+    #[cfg(feature = "placer")]
+    placer::compare(&mut tally);
     let Tally {
         cases,
         differences,

@@ -1,5 +1,5 @@
-//! egui's layout.rs and grid.rs, compiled as they are, with stand-ins for what they take from their
-//! own crate.
+//! egui's layout.rs, grid.rs and placer.rs, compiled as they are, with stand-ins for what they take
+//! from their own crate.
 //!
 //! The files are not kept here: `oracle/run` copies them to the folder named by EGUI_COPY.
 
@@ -21,6 +21,13 @@ pub mod grid {
     pub mod driver;
 }
 
+#[cfg(feature = "placer")]
+pub mod placer {
+    include!(concat!(env!("EGUI_COPY"), "/placer.rs"));
+
+    pub mod driver;
+}
+
 #[cfg(feature = "grid")]
 mod context;
 #[cfg(feature = "grid")]
@@ -37,3 +44,5 @@ pub use direction::Direction;
 pub use emath::{self, Align};
 #[cfg(feature = "grid")]
 pub(crate) use layout::Region;
+#[cfg(feature = "placer")]
+pub(crate) use {emath::Pos2, layout::Layout};

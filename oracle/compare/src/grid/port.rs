@@ -8,15 +8,15 @@ use crate::probe::{UNTOUCHED, answered};
 use crate::tally::Answer;
 use crate::values::{Edges, State};
 
-const NOWHERE: usize = usize::MAX;
+pub const NOWHERE: usize = usize::MAX;
 
-const UNTOUCHED_MEMORY: Memory = Memory {
+pub const UNTOUCHED_MEMORY: Memory = Memory {
     widths: [UNTOUCHED; 32],
     heights: [UNTOUCHED; 128],
     counts: [NOWHERE; 2],
 };
 
-fn places(g: &Grid) -> Places {
+pub fn places(g: &Grid) -> Places {
     let flags = [g.is_first_frame, g.sizing_pass].map(usize::from);
     [flags[0], flags[1], g.num_columns, g.col, g.row]
 }
@@ -45,7 +45,7 @@ macro_rules! of_grid {
     };
 }
 
-fn memory(call: impl FnOnce(&mut Widths, &mut Heights, &mut Counts) -> u8) -> Answer<Memory> {
+pub fn memory(call: impl FnOnce(&mut Widths, &mut Heights, &mut Counts) -> u8) -> Answer<Memory> {
     let mut m = UNTOUCHED_MEMORY;
     let number = call(&mut m.widths, &mut m.heights, &mut m.counts);
     Answer { number, value: m }

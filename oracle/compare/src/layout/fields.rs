@@ -9,7 +9,7 @@ use crate::probe;
 use crate::tally::Tally;
 use crate::values::Fields;
 
-fn fields(l: Layout) -> Fields {
+pub fn fields(l: Layout) -> Fields {
     [
         direction_number(l.main_dir),
         u8::from(l.main_wrap),

@@ -66,6 +66,59 @@ fn edges(r: Rect) -> [f32; 4] {
     [r.left(), r.top(), r.right(), r.bottom()]
 }
 
+pub(crate) fn grid_layout(grid: &Grid) -> GridLayout {
+    let [l, t, r, b, across, down, ..] = grid.lengths;
+    let [.., min_x, min_y, max_x, max_y] = grid.lengths;
+    GridLayout {
+        ctx: Context::default(),
+        style: Default::default(),
+        id: Id,
+        is_first_frame: grid.is_first_frame,
+        prev_state: grid.prev.lists(),
+        curr_state: grid.curr.lists(),
+        initial_available: rect(&[l, t, r, b]),
+        sizing_pass: grid.sizing_pass,
+        num_columns: named(grid.num_columns),
+        spacing: vec2(across, down),
+        min_cell_size: vec2(min_x, min_y),
+        max_cell_size: vec2(max_x, max_y),
+        color_picker: None,
+        col: grid.col,
+        row: grid.row,
+    }
+}
+
+pub(crate) fn grid(grid: &GridLayout) -> Grid {
+    let [l, t, r, b] = edges(grid.initial_available);
+    let [spacing, min, max] = [grid.spacing, grid.min_cell_size, grid.max_cell_size];
+    Grid {
+        prev: Memory::of(&grid.prev_state),
+        curr: Memory::of(&grid.curr_state),
+        lengths: [l, t, r, b, spacing.x, spacing.y, min.x, min.y, max.x, max.y],
+        is_first_frame: grid.is_first_frame,
+        sizing_pass: grid.sizing_pass,
+        num_columns: grid.num_columns.unwrap_or(0),
+        col: grid.col,
+        row: grid.row,
+    }
+}
+
+/// Where `save` will store. It holds the memory of the pass before, where there was one.
+pub(crate) fn before_save(grid: &GridLayout) -> Context {
+    if !grid.is_first_frame {
+        grid.prev_state.clone().store(&grid.ctx, grid.id);
+    }
+    grid.ctx.data_mut(|data| data.take_inserted());
+    grid.ctx.clone()
+}
+
+/// What is stored there, and whether `save` stored it.
+pub(crate) fn after_save(ctx: &Context) -> (Memory, bool) {
+    let saved = ctx.data_mut(|data| data.take_inserted());
+    let stored = State::load(ctx, Id).unwrap_or_default();
+    (Memory::of(&stored), saved)
+}
+
 /// A `GridLayout`, which reads and changes its own state only.
 pub struct Running(GridLayout);
 
@@ -91,41 +144,11 @@ impl Running {
     }
 
     pub fn of(grid: &Grid) -> Self {
-        let [l, t, r, b, across, down, ..] = grid.lengths;
-        let [.., min_x, min_y, max_x, max_y] = grid.lengths;
-        Self(GridLayout {
-            ctx: Context::default(),
-            style: Default::default(),
-            id: Id,
-            is_first_frame: grid.is_first_frame,
-            prev_state: grid.prev.lists(),
-            curr_state: grid.curr.lists(),
-            initial_available: rect(&[l, t, r, b]),
-            sizing_pass: grid.sizing_pass,
-            num_columns: named(grid.num_columns),
-            spacing: vec2(across, down),
-            min_cell_size: vec2(min_x, min_y),
-            max_cell_size: vec2(max_x, max_y),
-            color_picker: None,
-            col: grid.col,
-            row: grid.row,
-        })
+        Self(grid_layout(grid))
     }
 
     pub fn grid(&self) -> Grid {
-        let grid = &self.0;
-        let [l, t, r, b] = edges(grid.initial_available);
-        let [spacing, min, max] = [grid.spacing, grid.min_cell_size, grid.max_cell_size];
-        Grid {
-            prev: Memory::of(&grid.prev_state),
-            curr: Memory::of(&grid.curr_state),
-            lengths: [l, t, r, b, spacing.x, spacing.y, min.x, min.y, max.x, max.y],
-            is_first_frame: grid.is_first_frame,
-            sizing_pass: grid.sizing_pass,
-            num_columns: grid.num_columns.unwrap_or(0),
-            col: grid.col,
-            row: grid.row,
-        }
+        grid(&self.0)
     }
 
     pub fn prev_col_width(&self, col: usize) -> f32 {
@@ -175,18 +198,10 @@ impl Running {
         cursor
     }
 
-    /// What is stored afterwards, and whether `save` stored it. Before, it is the memory of the pass
-    /// before, where there was one.
     pub fn save(&self) -> (Memory, bool) {
-        let Self(grid) = self;
-        if !grid.is_first_frame {
-            grid.prev_state.clone().store(&grid.ctx, grid.id);
-        }
-        grid.ctx.data_mut(|data| data.take_inserted());
-        grid.save();
-        let saved = grid.ctx.data_mut(|data| data.take_inserted());
-        let stored = State::load(&grid.ctx, grid.id).unwrap_or_default();
-        (Memory::of(&stored), saved)
+        let ctx = before_save(&self.0);
+        self.0.save();
+        after_save(&ctx)
     }
 }
 

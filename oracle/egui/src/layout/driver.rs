@@ -12,7 +12,7 @@ fn rect(state: &State, from: usize) -> Rect {
     Rect::from_min_max(min, pos2(state[from + 2], state[from + 3]))
 }
 
-fn region(state: &State) -> Region {
+pub(crate) fn region(state: &State) -> Region {
     Region {
         min_rect: rect(state, 0),
         max_rect: rect(state, 4),
@@ -20,7 +20,7 @@ fn region(state: &State) -> Region {
     }
 }
 
-fn state(region: Region) -> State {
+pub(crate) fn state(region: Region) -> State {
     let mut state = [0.0; 12];
     let rects = [region.min_rect, region.max_rect, region.cursor];
     for (edges, r) in state.chunks_exact_mut(4).zip(rects) {

@@ -7,10 +7,9 @@ use lib.Dec.{ltb}
 use lib.Ieee.{Float, le}
 use Rattle.emath.specs.Rectangles.{zeroF}
 use Rattle.emath.specs.declared.Rect.{Rect}
-use Rattle.emath.specs.declared.Vec2.{Vec2}
 use Rattle.grid.specs.Grids as grid-rules
 use Rattle.grid.specs.declared.GridLayout.{GridLayout}
-use Rattle.placer.specs.Rules.{forceSetMinRect, setCursor, withRegion, advanceCursor, setRowHeight, expandToIncludeRect, expandToIncludeX, expandToIncludeY, setMaxWidth, setMaxHeight, grownAcross, grownDown, setMinWidth, setMinHeight, nextWidgetSpaceIgnoreWrapJustify}
+use Rattle.placer.specs.Rules.{forceSetMinRect, setCursor, advanceCursor, setRowHeight, expandToIncludeRect, expandToIncludeX, expandToIncludeY, setMaxWidth, setMaxHeight, grownAcross, grownDown, setMinWidth, setMinHeight, nextWidgetSpaceIgnoreWrapJustify}
 use Rattle.placer.specs.declared.Placer.{Placer}
 
 module _ (p : Placer) where

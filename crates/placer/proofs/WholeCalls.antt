@@ -1,40 +1,26 @@
 -- Whole steps in, whole steps out, for the calls that a layout or a grid answers: new, the cursor's moves and the expansions. For steps of
 -- 1 to 1/64 point. Assumes nothing.
-use mathlib.Core.Path.{_≡_, refl, sym, ap, _∙_}
-use mathlib.Core.Bool.{Bool, true, false, cond, _&&_, true≢false}
-use Prim.Native.Nat.{ℕ, _≤_, _<_}
+use mathlib.Core.Path.{_≡_}
+use mathlib.Core.Bool.{Bool, false}
+use Prim.Native.Nat.{ℕ, _≤_}
 use native.Mathlib.Omega.{arith}
-use lib.Dec.{T, ltb}
-use lib.IntN.{ℤ, _+ℤ_}
-use lib.Ieee.{Float, binary32, add}
-use lib.Pow.{pow-mono}
-use Rattle.emath.specs.Domain.{within}
-use Rattle.emath.specs.Steps.{val, Edge, most}
-use Rattle.emath.proofs.Whole.{Within, sum, within-natAbs}
-use Rattle.emath.proofs.Exact.{Small}
-use Rattle.emath.proofs.Values.{val-add}
-use Rattle.emath.proofs.Edges.{within-steps}
+use lib.Ieee.{Float}
+use Rattle.emath.specs.Steps.{Edge}
 use Rattle.layout.specs.Rules as layout-rules
 use Rattle.layout.specs.Rules.{withCursor}
-use Rattle.layout.specs.Refusals.{closed, cursorFault, regionFault}
+use Rattle.layout.specs.Refusals.{cursorFault, regionFault}
 use Rattle.layout.specs.Steps.{WholeRect, WholeSize, WholeCursor, WholeRegion}
 use Rattle.layout.proofs.Answers.{region-none}
 use Rattle.layout.proofs.WholeRegions.{advance-cursor-whole, end-row-whole, set-row-height-whole, expand-to-include-rect-whole, expand-to-include-x-whole, expand-to-include-y-whole}
 use Rattle.layout.proofs.WholeCursors.{advance-after-rects-whole}
 use Rattle.layout.proofs.Seeds.{region-from-max-rect-whole}
-use Rattle.grid.specs.Memories.{rowHeight}
-use Rattle.grid.specs.Grids as grid-rules
-use Rattle.grid.specs.Grids.{prevColWidth}
-use Rattle.grid.specs.Refusals.{fitsGrid}
 use Rattle.placer.specs.Refusals.{placerFault}
 use Rattle.placer.specs.Rules.{newPlacer, withRegion, setCursor, forceSetMinRect, advanceCursor, movedPast, advanceAfterRects, endRow, setRowHeight, expandToIncludeRect, expandToIncludeX, expandToIncludeY}
-use Rattle.placer.specs.Steps.{WholePlacer, WholeAcross, WholeDown}
+use Rattle.placer.specs.Steps.{WholePlacer}
 use Rattle.placer.proofs.Accepted.{placer-region}
-use Rattle.placer.proofs.WholePlacers.{WholeIf, RectIf, RegionIf, edge-whole-if, rect-if, region-if, region-whole, union-if}
 use Rattle.emath.specs.declared.Rect.{Rect}
 use Rattle.emath.specs.declared.Vec2.{Vec2}
 use Rattle.layout.specs.declared.Direction.{Direction}
-use Rattle.layout.specs.declared.Direction.the-variants.{LeftToRight, RightToLeft, TopDown, BottomUp}
 use Rattle.layout.specs.declared.Layout.{Layout}
 use Rattle.layout.specs.declared.Region.{Region}
 use Rattle.grid.specs.declared.GridLayout.{GridLayout}

@@ -1,6 +1,6 @@
 -- The heights of a pass stay whole: after an accepted `advance_after_rects` past a widget in whole steps, and after every `end_row`, a grid
 -- whose heights were whole has whole heights. For steps of 1 to 1/64 point. Assumes nothing.
-use mathlib.Core.Path.{_≡_, refl, sym}
+use mathlib.Core.Path.{_≡_, refl}
 use mathlib.Core.Bool.{Bool, true, false, not, cond, _&&_}
 use mathlib.Core.List.{List, [], _∷_}
 use Prim.Native.Nat.{ℕ, zero, suc, _+_, _≤_, _<_}
@@ -10,7 +10,7 @@ use lib.ListN.{length, take, getD, length-take}
 use lib.Ieee.{Float, nan, lt}
 use Rattle.emath.specs.Rectangles.{zeroF, maxF, width, height}
 use Rattle.emath.specs.Domain.{within, finite}
-use Rattle.emath.specs.Refusals.{when, least, lengthFault, extentFault, sizeFault, pairFault, edgesFault}
+use Rattle.emath.specs.Refusals.{when, least, lengthFault, extentFault}
 use Rattle.emath.specs.Steps.{Edge}
 use Rattle.emath.proofs.Tests.{T-of}
 use Rattle.emath.proofs.Refusals.{lesser-none, when-none}
@@ -21,14 +21,14 @@ use Rattle.grid.specs.Entries.{entry, raised, entriesFault}
 use Rattle.grid.specs.Memories.{heights, raisedCount, setMinColWidth, setMinRowHeight, rowHeight}
 use Rattle.grid.specs.Grids as grid-rules
 use Rattle.grid.specs.Grids.{noted}
-use Rattle.grid.specs.Refusals.{memoryFault, gridFault, maxCellFault}
+use Rattle.grid.specs.Refusals.{memoryFault, gridFault}
 use Rattle.grid.proofs.Remembered.{raised-same, raised-kept, raised-skipped, raised-none, entry-none, entry-there}
 use Rattle.grid.proofs.Advances.{Sound, row-without-cell}
 use Rattle.placer.specs.Refusals.{placerFault}
 use Rattle.placer.specs.Rules.{movedPast, advanceAfterRects, expandToIncludeRect, setCursor, endRow}
 use Rattle.placer.specs.Steps.{WholeDown}
 use Rattle.placer.proofs.Accepted.{placer-grid}
-use Rattle.placer.proofs.WholePlacers.{WholeIf, edge-whole-if, max-whole-if, zero-whole-if}
+use Rattle.placer.proofs.WholePlacers.{WholeIf, max-whole-if, zero-whole-if}
 use Rattle.emath.specs.declared.Rect.{Rect}
 use Rattle.emath.specs.declared.Vec2.{Vec2}
 use Rattle.grid.specs.declared.Memory.{Memory}

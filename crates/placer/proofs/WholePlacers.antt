@@ -1,40 +1,36 @@
 -- Whole steps in, whole steps out: a placer in whole steps stays so under every accepted call with arguments in whole steps, with a grid
 -- or without; and where a grid was given a memory that is off the step, min_rect, max_rect and the cursor's top stay whole all the same.
 -- For steps of 1 to 1/64 point. Assumes nothing.
-use mathlib.Core.Path.{_≡_, refl, sym, ap, _∙_}
+use mathlib.Core.Path.{_≡_, refl}
 use mathlib.Core.Logic.{_⊎_, inl, inr}
 use mathlib.Core.Bool.{Bool, true, false, cond}
-use Prim.Native.Nat.{ℕ, _≤_, _<_}
+use Prim.Native.Nat.{ℕ, _≤_}
 use native.Mathlib.Omega.{arith}
 use lib.Dec.{T}
-use lib.IntN.{_+ℤ_}
-use lib.Ieee.{Float, inf, binary32, ofBits, add, neg, lt, le, eq}
+use lib.Ieee.{Float, inf, ofBits, neg, lt, le, eq}
 use Rattle.emath.specs.Rectangles.{minF, maxF, zeroF, roundUi, roundRect, union, extendWithX, extendWithY, alignWithin}
 use Rattle.emath.specs.Domain.{within}
 use Rattle.emath.specs.Steps.{Edge}
 use Rattle.emath.specs.Refusals.{edgesFault}
 use Rattle.emath.proofs.MinMax.{min-one-of, max-one-of}
 use Rattle.emath.proofs.Edges.{round-edge}
-use Rattle.emath.proofs.Sums.{OnGrid, grid-edge, zero-grid, grid-add}
+use Rattle.emath.proofs.Sums.{grid-edge, zero-grid}
 use Rattle.emath.proofs.Refusals.{edges-within, rect-none}
 use Rattle.layout.specs.Rules as layout-rules
-use Rattle.layout.specs.Rules.{infinity, withCursor}
+use Rattle.layout.specs.Rules.{infinity}
 use Rattle.layout.specs.Layouts.{align2}
 use Rattle.layout.specs.Refusals.{excused, closed, cursorFault, regionFault}
-use Rattle.layout.specs.Steps.{WholeRect, WholeSize, WholeCursor, WholeRegion}
+use Rattle.layout.specs.Steps.{WholeRect, WholeRegion}
 use Rattle.layout.proofs.Answers.{region-none}
-use Rattle.layout.proofs.WholeRegions.{eq-inf-is, neg-infinity, advance-cursor-whole, end-row-whole, set-row-height-whole, expand-to-include-rect-whole, expand-to-include-x-whole, expand-to-include-y-whole}
-use Rattle.layout.proofs.WholeCursors.{advance-after-rects-whole}
-use Rattle.layout.proofs.Seeds.{region-from-max-rect-whole}
+use Rattle.layout.proofs.WholeRegions.{eq-inf-is, neg-infinity}
 use Rattle.placer.specs.Refusals.{placerFault}
-use Rattle.placer.specs.Rules.{newPlacer, withRegion, setCursor, forceSetMinRect, advanceCursor, movedPast, advanceAfterRects, endRow, setRowHeight, expandToIncludeRect, expandToIncludeX, expandToIncludeY, nextWidgetSpaceIgnoreWrapJustify, limitedAcross, limitedDown, setMaxWidth, setMaxHeight, grownAcross, grownDown, setMinWidth, setMinHeight}
+use Rattle.placer.specs.Rules.{withRegion, expandToIncludeX, expandToIncludeY, nextWidgetSpaceIgnoreWrapJustify, limitedAcross, limitedDown, setMaxWidth, setMaxHeight, grownAcross, grownDown, setMinWidth, setMinHeight}
 use Rattle.placer.specs.Steps.{WholePlacer}
 use Rattle.placer.proofs.Accepted.{placer-region}
 use Rattle.emath.specs.declared.Rect.{Rect}
 use Rattle.emath.specs.declared.Vec2.{Vec2}
 use Rattle.layout.specs.declared.Direction.{Direction}
 use Rattle.layout.specs.declared.Direction.the-variants.{LeftToRight, RightToLeft, TopDown, BottomUp}
-use Rattle.layout.specs.declared.Layout.{Layout}
 use Rattle.layout.specs.declared.Region.{Region}
 use Rattle.placer.specs.declared.Placer.{Placer}
 

@@ -1,44 +1,22 @@
 -- Whatever memory a grid was given, min_rect, max_rect and the cursor's top stay whole under the calls that set, expand and grow the
 -- region, too. For steps of 1 to 1/64 point. Assumes nothing.
-use mathlib.Core.Path.{_≡_, refl, sym, ap, _∙_}
-use mathlib.Core.Bool.{Bool, true, false, cond, _&&_, true≢false}
-use Prim.Native.Nat.{ℕ, _≤_, _<_}
-use native.Mathlib.Omega.{arith}
-use lib.Dec.{T, ltb}
-use lib.IntN.{ℤ, _+ℤ_}
+use mathlib.Core.Path.{_≡_}
+use mathlib.Core.Bool.{Bool, true, false, cond, _&&_}
+use Prim.Native.Nat.{ℕ, _≤_}
 use lib.Ieee.{Float, binary32, add, le}
-use lib.Pow.{pow-mono}
-use Rattle.emath.specs.Rectangles.{zeroF, union, extendWithX, extendWithY}
-use Rattle.emath.specs.Domain.{within}
-use Rattle.emath.specs.Refusals.{edgesFault}
-use Rattle.emath.specs.Steps.{val, Edge, most}
-use Rattle.emath.proofs.Whole.{Within, sum, within-natAbs}
-use Rattle.emath.proofs.Exact.{Small}
-use Rattle.emath.proofs.Values.{val-add}
-use Rattle.emath.proofs.Edges.{within-steps}
-use Rattle.emath.proofs.Refusals.{edges-within, rect-none}
+use Rattle.emath.specs.Rectangles.{zeroF, extendWithX, extendWithY}
+use Rattle.emath.specs.Steps.{Edge}
 use Rattle.layout.specs.Rules as layout-rules
 use Rattle.layout.specs.Rules.{withCursor, setBottom}
 use Rattle.layout.specs.Layouts.{isHorizontal}
-use Rattle.layout.specs.Refusals.{closed, cursorFault, regionFault}
-use Rattle.layout.specs.Steps.{WholeRect, WholeCursor, WholeRegion}
-use Rattle.layout.proofs.Answers.{region-none}
-use Rattle.grid.specs.Memories.{rowHeight}
-use Rattle.grid.specs.Grids as grid-rules
-use Rattle.grid.specs.Grids.{prevColWidth}
+use Rattle.layout.specs.Steps.{WholeRect}
 use Rattle.grid.specs.Refusals.{fitsGrid}
 use Rattle.placer.specs.Refusals.{placerFault}
-use Rattle.placer.specs.Rules.{forceSetMinRect, withRegion, setCursor, movedPast, advanceAfterRects, endRow, setRowHeight, expandToIncludeRect, expandToIncludeX, expandToIncludeY, nextWidgetSpaceIgnoreWrapJustify, limitedAcross, limitedDown, setMaxWidth, setMaxHeight, grownAcross, grownDown, setMinWidth, setMinHeight}
-use Rattle.placer.specs.Steps.{WholePlacer, WholeAcross, WholeDown, WholeTops}
-use Rattle.placer.proofs.Accepted.{placer-region}
-use Rattle.placer.proofs.WholePlacers.{WholeIf, RectIf, RegionIf, edge-whole-if, min-whole-if, rect-if, cursor-if, region-if, rect-whole, region-whole, space-if, union-if, x-if, y-if}
+use Rattle.placer.specs.Rules.{forceSetMinRect, withRegion, setCursor, setRowHeight, expandToIncludeRect, expandToIncludeX, expandToIncludeY, nextWidgetSpaceIgnoreWrapJustify, grownAcross, grownDown, setMinWidth, setMinHeight}
+use Rattle.placer.specs.Steps.{WholeTops}
+use Rattle.placer.proofs.WholePlacers.{WholeIf, edge-whole-if, min-whole-if, rect-if, space-if, union-if, x-if, y-if}
 use Rattle.emath.specs.declared.Rect.{Rect}
-use Rattle.emath.specs.declared.Vec2.{Vec2}
-use Rattle.layout.specs.declared.Direction.{Direction}
-use Rattle.layout.specs.declared.Direction.the-variants.{LeftToRight, RightToLeft, TopDown, BottomUp}
-use Rattle.layout.specs.declared.Layout.{Layout}
 use Rattle.layout.specs.declared.Region.{Region}
-use Rattle.grid.specs.declared.GridLayout.{GridLayout}
 use Rattle.placer.proofs.WholeGrids.{TopsIf, tops-if, tops-whole}
 use Rattle.placer.specs.declared.Placer.{Placer}
 

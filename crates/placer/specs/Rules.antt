@@ -1,6 +1,6 @@
 -- placer.rs, function by function, before anything is refused. Where a call rounds, the step is 1 / 2 ^ k point.
 use Prim.Native.Nat.{ℕ}
-use mathlib.Core.Bool.{Bool, true, false, cond}
+use mathlib.Core.Bool.{true, false, cond}
 use lib.Ieee.{Float, le}
 use Rattle.emath.specs.Rectangles.{zeroF, sizeOf, center, union, roundRect}
 use Rattle.emath.specs.declared.Rect.{Rect}

@@ -90,7 +90,7 @@ pub fn compare(t: &mut Tally) {
         t.answered(
             &Operation {
                 name,
-                thousands: 200,
+                thousands: 420,
                 numbers,
             },
             |v| states::asked(v, kind),

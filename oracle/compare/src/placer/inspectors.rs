@@ -7,7 +7,7 @@ use super::{port, states};
 use crate::emath_ops::edges;
 use crate::tally::Tally;
 
-const THOUSANDS: u64 = 200;
+const THOUSANDS: u64 = 420;
 
 pub fn compare(t: &mut Tally) {
     let flags: [(&str, fn(&Running) -> bool); 2] = [

@@ -1,0 +1,6 @@
+-- The laws of fields. Layers above cite them as Rattle.text.proofs.NAME.
+pub mod Table
+pub mod Turns
+pub mod Outcomes
+pub mod RoundTrip
+pub mod Signs

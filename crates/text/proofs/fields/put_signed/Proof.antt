@@ -1,0 +1,30 @@
+use mir.ValLaws.{toZ-ofZ}
+use mir.Syntax.{w32}
+use lib.IntN.{natAbs}
+use Rattle.text.proofs.Turns.{as-written}
+use Rattle.text.proofs.Signs.{sign}
+use mathlib.Core.Path.{_≡_, refl, ap, sym, _∙_, subst}
+use native.Mathlib.Omega.{arith}
+use borrow.Author.Needs.{needs}
+use Rattle.text.proofs.fields.put_signed.Statement.{statement}
+use Rattle.text.proofs.fields.put_signed.Tie as tie
+use Rattle.text.proofs.fields.put_signed.Reads as reads
+use Rattle.text.proofs.fields.put_signed.Lts as lts
+use Rattle.text.proofs.fields.magnitude.Reads as magnitude-reads
+use Rattle.text.proofs.fields.put.Reads as put-reads
+
+magnitude-requires : tie.Need-magnitude-requires
+magnitude-requires c κs = search needs
+
+put-requires : tie.Need-put-requires
+put-requires c κs = search needs
+
+same-length : tie.Need-same-length
+same-length c = search needs
+
+returns : tie.Need-returns
+returns c = as-written _ _ _ _ _ _ _ (c .before .before .put .ensures) (sign (c .before .before .before .before .before .before .args .z) (c .before .before .before .before .before .before .fits .z) (c .before .before .before .before .before .before .pre .1)) (c .before .before .before .magnitude .ensures ∙ ap natAbs (toZ-ofZ w32 (c .before .before .before .before .before .before .args .z) (c .before .before .before .before .before .before .fits .z)))
+
+pub put-signed-spec : {M : Type 1} → statement M
+put-signed-spec =
+    tie.close (tie.spec magnitude-requires put-requires same-length returns)

@@ -1,0 +1,81 @@
+-- Document 01, "The sheet": "each a whole number right-justified in 8 columns with spaces before, no leading zeros, no -0".
+use Prim.Native.Nat.{ℕ, zero, suc, _+_, _-_, _*_, _/_, _%_, _^_, max}
+use mathlib.Core.List.{List, [], _∷_}
+use mathlib.Core.Bool.{Bool, true, false, cond, _&&_}
+use lib.IntN.{ℤ, pos, negsuc, negℤ, natAbs}
+use lib.Dec.{leb, ltb, eqb}
+use lib.ListN.{length, take, drop}
+use lib.Seq.{sets}
+use Rattle.text.specs.declared.Field.{Field}
+use Rattle.text.specs.declared.Field.the-variants.{Blank, Number, Wrong}
+
+-- ---- the text of a number
+-- the column of 10 ^ j has a digit: j is 0, or n is at least 10 ^ j
+abbrev pub shown : ℕ → ℕ → Bool
+shown n p = leb p (max n 1)
+
+-- a digit; the minus left of the first digit; else a space
+unfoldable pub column : Bool → ℕ → ℕ → ℕ
+column neg n j =
+    cond (shown n (10 ^ j)) (48 + n / 10 ^ j % 10)
+    (cond neg (cond (shown n (10 ^ j / 10)) 45 32) 32)
+
+-- the last k columns of n, the leftmost first
+unfoldable pub columns : Bool → ℕ → ℕ → List ℕ
+columns neg n zero = []
+columns neg n (suc k) = column neg n k ∷ columns neg n k
+
+abbrev pub negative : ℤ → Bool
+negative (pos n) = false
+negative (negsuc n) = true
+
+abbrev pub text : ℤ → List ℕ
+text z = columns (negative z) (natAbs z) 8
+
+-- a number has a text if its digits, and the minus before them, fit the columns
+unfoldable pub hasText : ℤ → Bool
+hasText (pos n) = ltb n 100000000
+hasText (negsuc n) = ltb n 9999999
+
+-- ---- reading
+-- one digit more, as long as there are fewer than eight
+unfoldable pub grow : ℕ → ℕ → ℕ
+grow acc b = cond (ltb 9999999 acc) acc (cond (ltb b 48) acc (cond (ltb 57 b) acc (acc * 10 + (b - 48))))
+
+unfoldable pub digitsFrom : ℕ → List ℕ → ℕ
+digitsFrom acc [] = acc
+digitsFrom acc (b ∷ bs) = digitsFrom (grow acc b) bs
+
+unfoldable pub same : List ℕ → List ℕ → Bool
+same [] [] = true
+same [] (y ∷ ys) = false
+same (x ∷ xs) [] = false
+same (x ∷ xs) (y ∷ ys) = cond (eqb x y) (same xs ys) false
+
+unfoldable pub blank : List ℕ → Bool
+blank [] = true
+blank (x ∷ xs) = cond (eqb x 32) (blank xs) false
+
+abbrev pub pick : Bool → Field → Field → Field
+pick true a b = a
+pick false a b = b
+
+-- the number whose text the columns are, its magnitude at most the limit: the digits say which it can only be
+unfoldable pub numberOf : ℕ → ℕ → List ℕ → Field
+numberOf limit n f =
+    pick (ltb limit n) Wrong
+    (pick (same f (text (pos n))) (Number (pos n))
+    (pick (same f (text (negℤ (pos n)))) (Number (negℤ (pos n))) Wrong))
+
+unfoldable pub field : ℕ → List ℕ → Field
+field limit f = pick (blank f) Blank (numberOf limit (digitsFrom 0 f) f)
+
+-- the eight columns from a place; wrong where there are fewer
+unfoldable pub fieldAt : ℕ → List ℕ → ℕ → Field
+fieldAt limit s at = pick (leb (at + 8) (length s)) (field limit (take 8 (drop at s))) Wrong
+
+-- ---- writing
+-- whether it was written, and what the slice then holds: only the eight places change, and none where they are not all there or the number
+-- has no text
+unfoldable pub writtenAt : List ℕ → ℕ → ℤ → Bool × List ℕ
+writtenAt out at z = cond (leb (at + 8) (length out) && hasText z) (true, sets out at (text z)) (false, out)

@@ -1,0 +1,9 @@
+// A sheet's fields as text: whole numbers in eight columns, read and written against one definition of a number's text.
+pub mod fields;
+
+// What eight columns hold.
+pub enum Field {
+    Blank,
+    Number(i32),
+    Wrong,
+}

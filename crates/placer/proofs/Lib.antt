@@ -4,5 +4,6 @@ pub mod WholePlacers
 pub mod WholeCalls
 pub mod WholeGrids
 pub mod WholeHeights
+pub mod Carried
 pub mod WholeTopsCalls
 pub mod Kept

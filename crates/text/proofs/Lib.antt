@@ -4,3 +4,4 @@ pub mod Turns
 pub mod Outcomes
 pub mod RoundTrip
 pub mod Signs
+pub mod LineTexts

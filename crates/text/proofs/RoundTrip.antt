@@ -6,10 +6,11 @@ use mathlib.Core.Bool.{Bool, true, false, cond}
 use native.Mathlib.Omega.{arith}
 use native.Mathlib.Nat.{pow-suc, div-div-eq-div-mul, div-eq-of-lt, div-one, div-le-self, pow-le-pow-right}
 use borrow.Author.Tests.{lt-ltb, le-ltb, le-leb, lt-leb, eq-eqb, ne-eqb, eqb-true, leb-false, ltb-true, ltb-false}
-use lib.Dec.{ltb, eqb, lit<}
+use lib.Dec.{leb, ltb, eqb, lit<}
+use lib.ListN.{length, take, drop}
 use lib.IntN.{ℤ, pos, negsuc, negℤ, natAbs}
 use mathlib.Core.Logic.{_⊎_, inl, inr}
-use Rattle.text.specs.Fields.{shown, column, columns, text, hasText, grow, digitsFrom, same, blank, pick, numberOf, field}
+use Rattle.text.specs.Fields.{shown, column, columns, text, hasText, grow, digitsFrom, same, blank, pick, numberOf, field, fieldAt}
 use Rattle.text.specs.declared.Field.the-variants.{Blank, Number, Wrong}
 
 -- ---- equality of lists, as a test
@@ -237,3 +238,12 @@ text-is-read limit (pos n) t h =
 text-is-read limit (negsuc n) t h =
     let l : n < 9999999 = ltb-true n 9999999 t in
     simp (text-not-blank true (suc n) 7, digits-of-text true (suc n) (omega arith), le-ltb limit (suc n) h, sign-differs (suc n) 7 (omega arith) (omega arith), same-refl (columns true (suc n) 8))
+
+-- ---- at a place of a longer text
+pub at-is-text : (limit : ℕ) (s : List ℕ) (at : ℕ) (z : ℤ) → fieldAt limit s at ≡ Number z → (take 8 (drop at s) ≡ text z) × (natAbs z ≤ limit)
+unfolding fieldAt
+at-is-text limit s at z = go (leb (at + 8) (length s))
+  where
+    go : (b : Bool) → pick b (field limit (take 8 (drop at s))) Wrong ≡ Number z → (take 8 (drop at s) ≡ text z) × (natAbs z ≤ limit)
+    go true e = read-is-text limit (take 8 (drop at s)) z e
+    go false e = let o : _≡_ {A = ℕ} 0 1 = cc in absurd (omega arith)

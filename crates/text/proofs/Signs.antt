@@ -76,3 +76,7 @@ pub has-text-small : (z : ℤ) → hasText z ≡ true → natAbs z < 100000000
 unfolding hasText
 has-text-small (pos n) h = ltb-true n 100000000 h
 has-text-small (negsuc n) h = omega (arith, ltb-true n 9999999 h)
+
+-- what the machine reads back is what was kept
+abbrev pub Same : ℤ → Type 0
+Same z = toZ w32 (ofZ w32 z) ≡ z

@@ -1,2 +1,3 @@
 -- What a reader must believe of this crate: what a field holds, and what a number's text is.
 pub mod Fields
+pub mod Lines

@@ -149,7 +149,7 @@ pub fn read_field(text: &[u8], at: usize, limit: u32) -> Field
 }
 
 // Whether z has a text of eight columns.
-fn has_text(z: i32) -> bool
+pub fn has_text(z: i32) -> bool
     ensures { λ r. ⌜ r ≡ hasText z ⌝ }
 {
     if z < 0 - 9999999 {

@@ -1,16 +1,11 @@
 use Rattle.text.proofs.Turns.{ten-pos}
-use Prim.Native.Nat.{ℕ, _<_, _≤_, _^_, _/_, max}
-use mathlib.Core.Path.{_≡_, sym, _∙_, subst}
+use Prim.Native.Nat.{_<_, _≤_, _^_, _/_, max}
 use Rattle.text.specs.Fields.{column}
 use borrow.Author.Tests.{le-leb, lt-leb}
 use native.Mathlib.Omega.{arith}
 use borrow.Author.Needs.{needs}
 use Rattle.text.proofs.fields.column.Statement.{statement}
 use Rattle.text.proofs.fields.column.Tie as tie
-use Rattle.text.proofs.fields.column.Reads as reads
-use Rattle.text.proofs.fields.column.Lts as lts
-use Rattle.text.proofs.fields.at_least_one.Reads as at-least-one-reads
-use Rattle.text.proofs.fields.ten.Reads as ten-reads
 
 ten-requires : tie.Need-ten-requires
 ten-requires c κs = search needs

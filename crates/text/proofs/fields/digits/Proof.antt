@@ -1,15 +1,11 @@
 use Rattle.text.proofs.Turns.{digits-turn, digits-end}
 use Rattle.text.specs.Fields.{digitsFrom}
 use lib.ListN.{length, drop}
-use mathlib.Core.Path.{_≡_, refl, _∙_, sym}
-use Prim.Native.Nat.{_+_, _-_, _≤_, _<_}
-use native.Mathlib.Omega.{arith}
+use mathlib.Core.Path.{_≡_}
+use Prim.Native.Nat.{_-_, _<_}
 use borrow.Author.Needs.{needs}
 use Rattle.text.proofs.fields.digits.Statement.{statement}
 use Rattle.text.proofs.fields.digits.Tie as tie
-use Rattle.text.proofs.fields.digits.Reads as reads
-use Rattle.text.proofs.fields.digits.Lts as lts
-use Rattle.text.proofs.fields.grow.Reads as grow-reads
 
 abbrev Inv-loop : tie.InvT-loop
 Inv-loop f acc₀ i₀ acc i = (acc < 100000000) × (digitsFrom acc (drop i f) ≡ digitsFrom 0 f)

@@ -1,11 +1,8 @@
 use Rattle.text.specs.Fields.{grow}
 use borrow.Author.Tests.{le-ltb, lt-ltb}
-use native.Mathlib.Omega.{arith}
 use borrow.Author.Needs.{needs}
 use Rattle.text.proofs.fields.grow.Statement.{statement}
 use Rattle.text.proofs.fields.grow.Tie as tie
-use Rattle.text.proofs.fields.grow.Reads as reads
-use Rattle.text.proofs.fields.grow.Lts as lts
 
 returns : tie.Need-returns
 unfolding grow

@@ -1,4 +1,4 @@
-use mathlib.Core.Path.{_≡_, ap, sym, _∙_}
+use mathlib.Core.Path.{ap, sym, _∙_}
 use lib.IntN.{ℤ, pos, negsuc}
 use lib.Signed.{ltZ}
 use mir.ValLaws.{toZ-ofZ}
@@ -7,8 +7,6 @@ use Rattle.text.proofs.Signs.{too-low, not-low}
 use borrow.Author.Needs.{needs}
 use Rattle.text.proofs.fields.has_text.Statement.{statement}
 use Rattle.text.proofs.fields.has_text.Tie as tie
-use Rattle.text.proofs.fields.has_text.Reads as reads
-use Rattle.text.proofs.fields.has_text.Lts as lts
 
 sub-if1 : tie.Need-sub-if1
 sub-if1 c = search needs

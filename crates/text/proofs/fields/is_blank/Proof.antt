@@ -1,15 +1,11 @@
 use Rattle.text.proofs.Turns.{blank-turn, blank-stop, blank-end}
-use borrow.Author.Tests.{eq-eqb, ne-eqb}
 use Rattle.text.specs.Fields.{blank}
 use lib.ListN.{length, drop}
-use mathlib.Core.Path.{_≡_, refl, _∙_, sym}
-use Prim.Native.Nat.{_+_, _-_, _≤_, _<_}
-use native.Mathlib.Omega.{arith}
+use mathlib.Core.Path.{_≡_}
+use Prim.Native.Nat.{_-_}
 use borrow.Author.Needs.{needs}
 use Rattle.text.proofs.fields.is_blank.Statement.{statement}
 use Rattle.text.proofs.fields.is_blank.Tie as tie
-use Rattle.text.proofs.fields.is_blank.Reads as reads
-use Rattle.text.proofs.fields.is_blank.Lts as lts
 
 abbrev Inv-loop : tie.InvT-loop
 Inv-loop f i₀ i = blank (drop i f) ≡ blank f

@@ -1,17 +1,11 @@
 use Rattle.text.proofs.Turns.{same-turn, same-stop, same-end}
-use mathlib.Core.Path.{ap, subst}
-use borrow.Author.Tests.{eq-eqb, ne-eqb}
 use Rattle.text.specs.Fields.{same, columns}
-use lib.ListN.{length, drop}
-use mathlib.Core.Path.{_≡_, refl, _∙_, sym}
-use Prim.Native.Nat.{_+_, _-_, _≤_, _<_}
-use native.Mathlib.Omega.{arith}
+use lib.ListN.{drop}
+use mathlib.Core.Path.{_≡_, _∙_, sym}
+use Prim.Native.Nat.{_+_, _-_}
 use borrow.Author.Needs.{needs}
 use Rattle.text.proofs.fields.is_text.Statement.{statement}
 use Rattle.text.proofs.fields.is_text.Tie as tie
-use Rattle.text.proofs.fields.is_text.Reads as reads
-use Rattle.text.proofs.fields.is_text.Lts as lts
-use Rattle.text.proofs.fields.column.Reads as column-reads
 
 abbrev Inv-loop : tie.InvT-loop
 Inv-loop f neg n k₀ i₀ k i = (i + k ≡ 8) × (same (drop i f) (columns neg n k) ≡ same f (columns neg n 8))

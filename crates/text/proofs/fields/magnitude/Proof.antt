@@ -1,14 +1,10 @@
 use Rattle.text.proofs.Signs.{sub-fits, value, sign, negs-cast, plain-cast, abs-neg}
 use mir.ValLaws.{toZ-ofZ}
 use mir.Syntax.{w32}
-use lib.IntN.{ℤ, natAbs}
-use mathlib.Core.Path.{_≡_, refl, ap, sym, _∙_, subst}
-use native.Mathlib.Omega.{arith}
+use mathlib.Core.Path.{sym, _∙_}
 use borrow.Author.Needs.{needs}
 use Rattle.text.proofs.fields.magnitude.Statement.{statement}
 use Rattle.text.proofs.fields.magnitude.Tie as tie
-use Rattle.text.proofs.fields.magnitude.Reads as reads
-use Rattle.text.proofs.fields.magnitude.Lts as lts
 
 sub-result : tie.Need-sub-result
 sub-result c = sub-fits (c .before .args .z) (c .before .fits .z) (c .before .pre)

@@ -2,15 +2,11 @@ use Rattle.text.proofs.Turns.{put-turn, put-end}
 use Rattle.text.specs.Fields.{columns}
 use lib.Seq.{sets}
 use lib.ListN.{length, length-set}
-use mathlib.Core.Path.{_≡_, refl, _∙_}
+use mathlib.Core.Path.{_≡_}
 use Prim.Native.Nat.{_+_, _-_, _≤_}
-use native.Mathlib.Omega.{arith}
 use borrow.Author.Needs.{needs}
 use Rattle.text.proofs.fields.put.Statement.{statement}
 use Rattle.text.proofs.fields.put.Tie as tie
-use Rattle.text.proofs.fields.put.Reads as reads
-use Rattle.text.proofs.fields.put.Lts as lts
-use Rattle.text.proofs.fields.column.Reads as column-reads
 
 abbrev Inv-loop : tie.InvT-loop
 Inv-loop out₀ at neg n k₀ i₀ out k i = (length out ≡ length out₀) × (i + k ≡ at + 8) × (k ≤ 8) × (sets out i (columns neg n k) ≡ sets out₀ at (columns neg n 8))

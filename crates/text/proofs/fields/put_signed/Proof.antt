@@ -3,15 +3,10 @@ use mir.Syntax.{w32}
 use lib.IntN.{natAbs}
 use Rattle.text.proofs.Turns.{as-written}
 use Rattle.text.proofs.Signs.{sign}
-use mathlib.Core.Path.{_≡_, refl, ap, sym, _∙_, subst}
-use native.Mathlib.Omega.{arith}
+use mathlib.Core.Path.{ap, _∙_}
 use borrow.Author.Needs.{needs}
 use Rattle.text.proofs.fields.put_signed.Statement.{statement}
 use Rattle.text.proofs.fields.put_signed.Tie as tie
-use Rattle.text.proofs.fields.put_signed.Reads as reads
-use Rattle.text.proofs.fields.put_signed.Lts as lts
-use Rattle.text.proofs.fields.magnitude.Reads as magnitude-reads
-use Rattle.text.proofs.fields.put.Reads as put-reads
 
 magnitude-requires : tie.Need-magnitude-requires
 magnitude-requires c κs = search needs

@@ -1,16 +1,10 @@
-use mathlib.Core.Path.{_≡_, ap, sym, _∙_}
-use lib.IntN.{ℤ}
+use mathlib.Core.Path.{ap, _∙_}
 use Rattle.text.specs.declared.Field.the-variants.{Number}
 use Rattle.text.proofs.Outcomes.{nothing, above, number, minus, wrong}
 use Rattle.text.proofs.Signs.{small-value, opposite-fits, opposite-value}
 use borrow.Author.Needs.{needs}
 use Rattle.text.proofs.fields.read_columns.Statement.{statement}
 use Rattle.text.proofs.fields.read_columns.Tie as tie
-use Rattle.text.proofs.fields.read_columns.Reads as reads
-use Rattle.text.proofs.fields.read_columns.Lts as lts
-use Rattle.text.proofs.fields.digits.Reads as digits-reads
-use Rattle.text.proofs.fields.is_blank.Reads as is-blank-reads
-use Rattle.text.proofs.fields.is_text.Reads as is-text-reads
 
 is-blank-requires : tie.Need-is-blank-requires
 is-blank-requires c κs = search needs

@@ -7,9 +7,6 @@ use Rattle.text.specs.Fields.{field}
 use borrow.Author.Needs.{needs}
 use Rattle.text.proofs.fields.read_field.Statement.{statement}
 use Rattle.text.proofs.fields.read_field.Tie as tie
-use Rattle.text.proofs.fields.read_field.Reads as reads
-use Rattle.text.proofs.fields.read_field.Lts as lts
-use Rattle.text.proofs.fields.read_columns.Reads as read-columns-reads
 
 returns : tie.Need-returns
 returns c = few _ _ _ (search needs)

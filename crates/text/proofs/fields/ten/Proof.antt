@@ -4,12 +4,9 @@ use lib.Dec.{eqb, eqb→eq}
 use Prim.Native.Nat.{ℕ, _^_}
 use mathlib.Core.Bool.{Bool}
 use mathlib.Core.List.{List, [], _∷_}
-use native.Mathlib.Omega.{arith}
 use borrow.Author.Needs.{needs}
 use Rattle.text.proofs.fields.ten.Statement.{statement}
 use Rattle.text.proofs.fields.ten.Tie as tie
-use Rattle.text.proofs.fields.ten.Reads as reads
-use Rattle.text.proofs.fields.ten.Lts as lts
 
 tens : List ℕ
 tens = 1 ∷ 10 ∷ 100 ∷ 1000 ∷ 10000 ∷ 100000 ∷ 1000000 ∷ 10000000 ∷ []

@@ -1,7 +1,6 @@
 use Rattle.text.proofs.Outcomes.{no-room, no-text, put-there}
 use Rattle.text.proofs.Signs.{has-text-small}
-use native.Mathlib.Omega.{arith}
-use mathlib.Core.Path.{_≡_, ap, sym, _∙_}
+use mathlib.Core.Path.{ap, sym, _∙_}
 use lib.IntN.{ℤ, natAbs}
 use mir.ValLaws.{toZ-ofZ}
 use mir.Syntax.{w32}
@@ -10,10 +9,6 @@ use lib.Seq.{sets}
 use borrow.Author.Needs.{needs}
 use Rattle.text.proofs.fields.write_field.Statement.{statement}
 use Rattle.text.proofs.fields.write_field.Tie as tie
-use Rattle.text.proofs.fields.write_field.Reads as reads
-use Rattle.text.proofs.fields.write_field.Lts as lts
-use Rattle.text.proofs.fields.has_text.Reads as has-text-reads
-use Rattle.text.proofs.fields.put_signed.Reads as put-signed-reads
 
 returns : tie.Need-returns
 returns c = no-room _ _ _ (search needs)

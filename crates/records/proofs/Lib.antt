@@ -1,0 +1,4 @@
+-- The laws of records. Layers above cite them as Rattle.records.proofs.NAME.
+pub mod Lengths
+pub mod Places
+pub mod Reached

@@ -1,0 +1,156 @@
+-- The check of a whole sheet, record by record: what is known where k records have been read, w of them W, and what each return answers.
+-- Assumes nothing.
+use Prim.Native.Nat.{ℕ, zero, suc, _+_, _-_, _≤_, _<_}
+use mathlib.Core.Path.{_≡_, refl, ap, sym, _∙_}
+use mathlib.Core.List.{List, [], _∷_}
+use mathlib.Core.Bool.{Bool, true, false}
+use native.Mathlib.Omega.{arith}
+use native.Mathlib.Nat.{zero-add}
+use borrow.Author.Tests.{lt-ltb}
+use lib.ListN.{length, drop, length-drop, drop-of-length-le}
+use lib.Seq.{drop-nil}
+use Rattle.records.specs.declared.Record.{Record}
+use Rattle.records.specs.declared.Checked.{Checked}
+use Rattle.records.specs.declared.Checked.the-variants.{Refused}
+use Rattle.records.specs.Records.{recordOf, recordAt, size, rest, nextAt}
+use Rattle.records.specs.Sheets.{recordsFrom, after, records, placed, misplaced, widget, widgets, isEmpty, pick, sized, checked}
+use Rattle.records.proofs.Places.{next-is-rest}
+
+-- the rest of the text, from `at`, has the sheet's fault, and its W and records are those that are missing
+pub record Reached (s : List ℕ) (at k w left : ℕ) : Type 0 where
+  pub fault : misplaced (k + 1) (recordsFrom left (drop at s)) ≡ misplaced 1 (records s)
+  pub all-widgets : w + widgets (recordsFrom left (drop at s)) ≡ widgets (records s)
+  pub all-records : k + length (recordsFrom left (drop at s)) ≡ length (records s)
+  pub tail : after left (drop at s) ≡ after 512 s
+
+pub start : (s : List ℕ) → Reached s 0 0 0 512
+start s = record { fault = refl; all-widgets = zero-add _; all-records = zero-add _; tail = refl }
+
+-- ---- lists that are empty, and that are not
+pub empty : {A : Type 0} (l : List A) → length l ≡ 0 → isEmpty l ≡ true
+empty [] h = refl
+empty (x ∷ l) h = absurd (omega arith)
+
+pub not-empty : {A : Type 0} (l : List A) → 0 < length l → isEmpty l ≡ false
+not-empty [] h = absurd (omega arith)
+not-empty (x ∷ l) h = refl
+
+pub positive : {n : ℕ} → (n ≡ 0 → ⊥) → 0 < n
+positive {n = zero} h = absurd (h refl)
+positive {n = suc n} h = omega arith
+
+-- ---- one record more
+first-of : (left : ℕ) (u : List ℕ) → 0 < left → 0 < length u → recordsFrom left u ≡ recordOf u ∷ recordsFrom (left - 1) (rest u)
+unfolding recordsFrom
+first-of zero u h l = absurd (omega arith)
+first-of (suc left) [] h l = absurd (omega arith)
+first-of (suc left) (b ∷ u) h l = let e : suc left - 1 ≡ left = omega arith in rw e
+
+after-first : (left : ℕ) (u : List ℕ) → 0 < left → after left u ≡ after (left - 1) (rest u)
+unfolding after
+after-first zero u h = absurd (omega arith)
+after-first (suc left) u h = let e : suc left - 1 ≡ left = omega arith in rw e
+
+placed-on : (k : ℕ) (r : Record) (rs : List Record) (m : ℕ) → placed k r ≡ true → misplaced k (r ∷ rs) ≡ m → misplaced (k + 1) rs ≡ m
+unfolding misplaced
+placed-on k r rs m e h = rw e at h
+
+stops : (k : ℕ) (r : Record) (rs : List Record) (m : ℕ) → placed k r ≡ false → misplaced k (r ∷ rs) ≡ m → k ≡ m
+unfolding misplaced
+stops k r rs m e h = rw e at h
+
+counted : (w n m : ℕ) (r : Record) (rs : List Record) → n ≡ widget r → w + widgets (r ∷ rs) ≡ m → w + n + widgets rs ≡ m
+unfolding widgets
+counted w n m r rs e h = omega arith
+
+module _ (s : List ℕ) (at k w left : ℕ) (h : Reached s at k w left) (more : 0 < left) (here : at < length s) (r : Record) (er : r ≡ recordAt s at) where
+  first : recordsFrom left (drop at s) ≡ r ∷ recordsFrom (left - 1) (drop (nextAt s at) s)
+  unfolding recordAt
+  first =
+      let l : 0 < length (drop at s) = omega (arith, length-drop at s) in
+      first-of left (drop at s) more l ∙ rw (er, next-is-rest s at)
+
+  pub unplaced : placed (k + 1) r ≡ false → k + 1 ≡ misplaced 1 (records s)
+  unplaced e = stops (k + 1) r _ _ e (ap (λ (rs : List Record). misplaced (k + 1) rs) (sym first) ∙ h .fault)
+
+  pub next : (n : ℕ) → placed (k + 1) r ≡ true → n ≡ widget r → Reached s (nextAt s at) (k + 1) (w + n) (left - 1)
+  next n e en = record {
+    fault = placed-on (k + 1) r _ _ e (ap (λ (rs : List Record). misplaced (k + 1) rs) (sym first) ∙ h .fault);
+    all-widgets = counted w n _ r _ en (ap (λ (rs : List Record). w + widgets rs) (sym first) ∙ h .all-widgets);
+    all-records = let c : k + length (r ∷ recordsFrom (left - 1) (drop (nextAt s at) s)) ≡ length (records s) = ap (λ (rs : List Record). k + length rs) (sym first) ∙ h .all-records in omega arith;
+    tail = rw (next-is-rest s at) (sym (after-first left (drop at s) more) ∙ h .tail);
+  }
+
+-- ---- at the text's end, and after the last record that there is room for
+none-left : (left : ℕ) → recordsFrom left [] ≡ []
+unfolding recordsFrom
+none-left zero = refl
+none-left (suc left) = refl
+
+no-more : (left : ℕ) (u : List ℕ) → left ≤ 0 → recordsFrom left u ≡ []
+unfolding recordsFrom
+no-more zero u h = refl
+no-more (suc left) u h = absurd (omega arith)
+
+nothing-after : (left : ℕ) → after left [] ≡ []
+unfolding after
+nothing-after zero = refl
+nothing-after (suc left) = ap (λ (u : List ℕ). after left u) (drop-nil (size [])) ∙ nothing-after left
+
+all-after : (left : ℕ) (u : List ℕ) → left ≤ 0 → after left u ≡ u
+unfolding after
+all-after zero u h = refl
+all-after (suc left) u h = absurd (omega arith)
+
+none-misplaced : (k : ℕ) → misplaced k [] ≡ 0
+unfolding misplaced
+none-misplaced k = refl
+
+no-widgets : widgets [] ≡ 0
+unfolding widgets
+no-widgets = refl
+
+module _ (s : List ℕ) (at k w left : ℕ) (h : Reached s at k w left) (none : recordsFrom left (drop at s) ≡ []) where
+  pub no-fault : 0 ≡ misplaced 1 (records s)
+  no-fault = sym (none-misplaced (k + 1)) ∙ ap (λ (rs : List Record). misplaced (k + 1) rs) (sym none) ∙ h .fault
+
+  pub widgets-are : w ≡ widgets (records s)
+  widgets-are = omega (arith, ap (λ (rs : List Record). w + widgets rs) none, h .all-widgets, no-widgets)
+
+  pub records-are : k ≡ length (records s)
+  records-are = omega (arith, ap (λ (rs : List Record). k + length rs) none, h .all-records)
+
+-- ---- what is answered
+module _ (s : List ℕ) (room : ℕ) where
+  pub on-nothing : length s ≡ 0 → Refused 1 1 ≡ checked s room
+  unfolding checked
+  on-nothing h = rw (empty s h)
+
+  module _ (some : 0 < length s) where
+    at-fault : (m : ℕ) → 0 < m → m ≡ misplaced 1 (records s) → Refused 1 m ≡ checked s room
+    unfolding checked
+    at-fault m h e = rw (not-empty s some, ← e, lt-ltb 0 m h)
+
+    answer : (b : Bool) (v : Checked) → 0 ≡ misplaced 1 (records s) → b ≡ isEmpty (after 512 s)
+        → v ≡ sized (length (records s)) (widgets (records s)) room → pick b v (Refused 2 513) ≡ checked s room
+    unfolding checked
+    answer b v em eb ev = rw (not-empty s some, ← em, eb, ev)
+
+    module _ (at k w left : ℕ) (h : Reached s at k w left) where
+      pub misplaced-answer : 0 < left → at < length s → (r : Record) → r ≡ recordAt s at → (p : Bool) → p ≡ placed (k + 1) r → p ≡ false → Refused 1 (k + 1) ≡ checked s room
+      misplaced-answer more here r er p ep e =
+          at-fault (k + 1) (omega arith) (unplaced s at k w left h more here r er (sym ep ∙ e))
+
+      pub too-many : left ≤ 0 → at < length s → Refused 2 513 ≡ checked s room
+      too-many full here =
+          let t : isEmpty (drop at s) ≡ false = not-empty (drop at s) (omega (arith, length-drop at s)) in
+          let a : drop at s ≡ after 512 s = sym (all-after left (drop at s) full) ∙ h .tail in
+          answer false _ (no-fault s at k w left h (no-more left (drop at s) full)) (sym t ∙ ap (λ (u : List ℕ). isEmpty u) a) refl
+
+      pub ended-answer : length s ≤ at → (v : Checked) → v ≡ sized k w room → v ≡ checked s room
+      ended-answer out v ev =
+          let d : drop at s ≡ [] = drop-of-length-le s out in
+          let none : recordsFrom left (drop at s) ≡ [] = ap (λ (u : List ℕ). recordsFrom left u) d ∙ none-left left in
+          let a : after 512 s ≡ [] = sym (h .tail) ∙ ap (λ (u : List ℕ). after left u) d ∙ nothing-after left in
+          answer true v (no-fault s at k w left h none) (sym (ap (λ (u : List ℕ). isEmpty u) a))
+          (ev ∙ ap (λ (n : ℕ). sized n w room) (records-are s at k w left h none) ∙ ap (λ (n : ℕ). sized (length (records s)) n room) (widgets-are s at k w left h none))

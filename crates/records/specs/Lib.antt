@@ -1,0 +1,4 @@
+-- What a reader must believe of this crate: what a record says, and which sheets are turned back before any is laid out.
+pub mod Parts
+pub mod Records
+pub mod Sheets

@@ -1,0 +1,77 @@
+-- Document 01, "The sheet": "Each record is one letter, then its fields, …, then one LF." What the record at the front of a text is made
+-- of; its fields count from 0.
+use Prim.Native.Nat.{ℕ, _+_, _*_}
+use mathlib.Core.List.{List}
+use mathlib.Core.Bool.{Bool, true, false}
+use lib.IntN.{ℤ, pos, negsuc}
+use lib.ListN.{getD}
+use lib.Dec.{eqb}
+use lib.Signed.{leZ}
+use lib.Ieee.{Float, inf}
+use Rattle.emath.specs.Rectangles.{zeroF}
+use Rattle.emath.specs.Steps.{val}
+use Rattle.text.specs.Fields.{fieldAt}
+use Rattle.text.specs.declared.Field.{Field}
+use Rattle.text.specs.declared.Field.the-variants as field
+use Rattle.records.specs.declared.Length.{Length}
+use Rattle.records.specs.declared.Length.the-variants.{Points, Blank, Wrong}
+
+-- the letter; 0 where there is none
+abbrev pub letter : List ℕ → ℕ
+letter s = getD s 0 0
+
+-- "then one LF", after n fields
+unfoldable pub ends : List ℕ → ℕ → Bool
+ends s n = eqb (getD s (1 + 8 * n) 0) 10
+
+-- ---- "Lengths are in ticks, magnitude at most 2,097,152."
+-- z ticks in points: z / 32
+unfoldable pub points : ℤ → Float
+points z = val 5 z
+
+unfoldable pub inPoints : Field → Length
+inPoints field.Blank = Blank
+inPoints (field.Number z) = Points (points z)
+inPoints field.Wrong = Wrong
+
+unfoldable pub lengthIn : List ℕ → ℕ → Length
+lengthIn s i = inPoints (fieldAt 2097152 s (1 + 8 * i))
+
+unfoldable pub isLength : Length → Bool
+isLength (Points x) = true
+isLength Blank = false
+isLength Wrong = false
+
+unfoldable pub lengthValue : Length → Float
+lengthValue (Points x) = x
+lengthValue Blank = zeroF
+lengthValue Wrong = zeroF
+
+-- "maximum width and height (blank: infinite)"
+unfoldable pub isMaximum : Length → Bool
+isMaximum (Points x) = true
+isMaximum Blank = true
+isMaximum Wrong = false
+
+unfoldable pub maximumValue : Length → Float
+maximumValue (Points x) = x
+maximumValue Blank = inf false
+maximumValue Wrong = zeroF
+
+-- ---- a number from `least` to `most`: a flag, a direction, an align, a column count, a row
+unfoldable pub countIn : List ℕ → ℕ → ℕ → Field
+countIn s i most = fieldAt most s (1 + 8 * i)
+
+unfoldable pub isCount : Field → ℤ → Bool
+isCount field.Blank least = false
+isCount (field.Number z) least = leZ least z
+isCount field.Wrong least = false
+
+unfoldable pub natural : ℤ → ℕ
+natural (pos n) = n
+natural (negsuc n) = 0
+
+unfoldable pub countValue : Field → ℕ
+countValue field.Blank = 0
+countValue (field.Number z) = natural z
+countValue field.Wrong = 0

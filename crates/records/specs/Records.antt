@@ -1,0 +1,156 @@
+-- Document 01, "The sheet": what each letter's record says.
+use Prim.Native.Nat.{ℕ, _+_, _*_, min}
+use mathlib.Core.List.{List}
+use mathlib.Core.Bool.{Bool, true, false, _&&_}
+use lib.IntN.{pos}
+use lib.ListN.{length, drop}
+use lib.Dec.{eqb}
+use lib.Signed.{leZ}
+use lib.Ieee.{Float}
+use Rattle.emath.specs.declared.Align.{Align}
+use Rattle.emath.specs.declared.Align.the-variants.{Min, Center, Max}
+use Rattle.emath.specs.declared.Vec2.{Vec2}
+use Rattle.emath.specs.declared.Rect.{Rect}
+use Rattle.layout.specs.declared.Direction.{Direction}
+use Rattle.layout.specs.declared.Direction.the-variants.{LeftToRight, RightToLeft, TopDown, BottomUp}
+use Rattle.layout.specs.declared.Layout.{Layout}
+use Rattle.text.specs.declared.Field.{Field}
+use Rattle.text.specs.declared.Field.the-variants.{Blank, Number, Wrong as WrongField}
+use Rattle.records.specs.declared.GridOptions.{GridOptions}
+use Rattle.records.specs.declared.Step.{Step}
+use Rattle.records.specs.declared.Step.the-variants.{Widget, Space, RowHeight, MaxWidth, MaxHeight, MinWidth, MinHeight, RowEnd}
+use Rattle.records.specs.declared.Record.{Record}
+use Rattle.records.specs.declared.Record.the-variants.{Heading, Grid, Step as Steps, Wrong}
+use Rattle.records.specs.Parts.{letter, ends, lengthIn, isLength, lengthValue, isMaximum, maximumValue, countIn, isCount, countValue}
+
+abbrev pub pick : Bool → Record → Record → Record
+pick true a b = a
+pick false a b = b
+
+-- two lengths, fields i and i + 1
+unfoldable pub pairFits : List ℕ → ℕ → Bool
+pairFits s i = isLength (lengthIn s i) && isLength (lengthIn s (i + 1))
+
+unfoldable pub pairIn : List ℕ → ℕ → Vec2
+pairIn s i = record { x = lengthValue (lengthIn s i); y = lengthValue (lengthIn s (i + 1)) }
+
+-- ---- H: "six layout fields (flags 0 or 1), max_rect's four edges, spacing across and down"
+unfoldable pub directionOf : ℕ → Direction
+directionOf n = either (eqb n 0) LeftToRight (either (eqb n 1) RightToLeft (either (eqb n 2) TopDown BottomUp))
+  where
+    either : Bool → Direction → Direction → Direction
+    either true a b = a
+    either false a b = b
+
+unfoldable pub alignOf : ℕ → Align
+alignOf n = either (eqb n 0) Min (either (eqb n 1) Center Max)
+  where
+    either : Bool → Align → Align → Align
+    either true a b = a
+    either false a b = b
+
+unfoldable pub layoutFits : List ℕ → Bool
+layoutFits s =
+    isCount (countIn s 0 3) (pos 0) && isCount (countIn s 1 1) (pos 0) && isCount (countIn s 2 2) (pos 0)
+    && isCount (countIn s 3 1) (pos 0) && isCount (countIn s 4 2) (pos 0) && isCount (countIn s 5 1) (pos 0)
+
+unfoldable pub layoutIn : List ℕ → Layout
+layoutIn s = record {
+  «main_dir» = directionOf (countValue (countIn s 0 3));
+  «main_wrap» = eqb (countValue (countIn s 1 1)) 1;
+  «main_align» = alignOf (countValue (countIn s 2 2));
+  «main_justify» = eqb (countValue (countIn s 3 1)) 1;
+  «cross_align» = alignOf (countValue (countIn s 4 2));
+  «cross_justify» = eqb (countValue (countIn s 5 1)) 1;
+}
+
+unfoldable pub rectIn : List ℕ → Rect
+rectIn s = record { left = pairIn s 6 .x; top = pairIn s 6 .y; right = pairIn s 8 .x; bottom = pairIn s 8 .y }
+
+unfoldable pub headingRecord : List ℕ → Record
+headingRecord s =
+    pick (layoutFits s && (pairFits s 6 && pairFits s 8) && pairFits s 10 && ends s 12)
+    (Heading (record { layout = layoutIn s; «max_rect» = rectIn s; spacing = pairIn s 10 })) Wrong
+
+-- ---- G: "minimum cell width and height, maximum width and height (blank: infinite), columns 1 to 32 (blank: not named), start row 0 to
+-- 127. No other field may be blank."
+unfoldable pub maximaFit : List ℕ → Bool
+maximaFit s = isMaximum (lengthIn s 2) && isMaximum (lengthIn s 3)
+
+unfoldable pub maximaIn : List ℕ → Vec2
+maximaIn s = record { x = maximumValue (lengthIn s 2); y = maximumValue (lengthIn s 3) }
+
+unfoldable pub isColumns : Field → Bool
+isColumns Blank = true
+isColumns (Number z) = leZ (pos 1) z
+isColumns WrongField = false
+
+unfoldable pub optionsIn : List ℕ → GridOptions
+optionsIn s = record {
+  «min_cell_size» = pairIn s 0;
+  «max_cell_size» = maximaIn s;
+  «num_columns» = countValue (countIn s 4 32);
+  «start_row» = countValue (countIn s 5 127);
+}
+
+unfoldable pub gridRecord : List ℕ → Record
+gridRecord s =
+    pick (pairFits s 0 && maximaFit s && isColumns (countIn s 4 32) && isCount (countIn s 5 127) (pos 0) && ends s 6)
+    (Grid (optionsIn s)) Wrong
+
+-- ---- the steps
+unfoldable pub stepRecord : List ℕ → ℕ → Bool → Step → Record
+stepRecord s n fits step = pick (fits && ends s n) (Steps step) Wrong
+
+-- "W width height"
+unfoldable pub widgetRecord : List ℕ → Record
+widgetRecord s =
+    stepRecord s 2 (isLength (lengthIn s 0) && isLength (lengthIn s 1)) (Widget (lengthValue (lengthIn s 0)) (lengthValue (lengthIn s 1)))
+
+-- a letter of one field: "S amount", "R height", …
+abbrev pub single : List ℕ → (Float → Step) → Record
+single s step = stepRecord s 1 (isLength (lengthIn s 0)) (step (lengthValue (lengthIn s 0)))
+
+-- "S, R, L, K, N, T take one field"
+unfoldable pub singleRecord : List ℕ → ℕ → Record
+singleRecord s b =
+    pick (eqb b 83) (single s (λ x. Space x))
+    (pick (eqb b 82) (single s (λ x. RowHeight x))
+    (pick (eqb b 76) (single s (λ x. MaxWidth x))
+    (pick (eqb b 75) (single s (λ x. MaxHeight x))
+    (pick (eqb b 78) (single s (λ x. MinWidth x))
+    (pick (eqb b 84) (single s (λ x. MinHeight x))
+    Wrong)))))
+
+-- the record at the front of a text: H, G, W, "E none", or a letter of one field
+unfoldable pub recordOf : List ℕ → Record
+recordOf s =
+    pick (eqb (letter s) 72) (headingRecord s)
+    (pick (eqb (letter s) 71) (gridRecord s)
+    (pick (eqb (letter s) 87) (widgetRecord s)
+    (pick (eqb (letter s) 69) (stepRecord s 0 true RowEnd)
+    (singleRecord s (letter s)))))
+
+unfoldable pub recordAt : List ℕ → ℕ → Record
+recordAt s at = recordOf (drop at s)
+
+-- ---- how long a record is: the letter, eight columns for each field, the LF
+unfoldable pub fieldCount : ℕ → ℕ
+fieldCount b =
+    of (eqb b 72) 12 (of (eqb b 71) 6 (of (eqb b 87) 2 (of (eqb b 83) 1 (of (eqb b 82) 1 (of (eqb b 76) 1
+    (of (eqb b 75) 1 (of (eqb b 78) 1 (of (eqb b 84) 1 0))))))))
+  where
+    of : Bool → ℕ → ℕ → ℕ
+    of true a b = a
+    of false a b = b
+
+abbrev pub size : List ℕ → ℕ
+size s = 2 + 8 * fieldCount (letter s)
+
+-- the text after its first record
+abbrev pub rest : List ℕ → List ℕ
+rest s = drop (size s) s
+
+-- where the record after the one at a place begins, or the text's end
+unfoldable pub nextAt : List ℕ → ℕ → ℕ
+nextAt s at = min (at + size (drop at s)) (length s)

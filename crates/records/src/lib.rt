@@ -1,0 +1,65 @@
+// A sheet's records: the text of a record read into what it says, and the checks over a whole sheet.
+use emath::Rect;
+use emath::Vec2;
+use layout::Layout;
+
+mod grids;
+mod headings;
+mod parts;
+pub mod records;
+pub mod sheets;
+
+// Magnitude at most 2,097,152 ticks.
+pub const LIMIT: u32 = 2097152;
+
+pub const MAX_RECORDS: usize = 512;
+
+// H.
+pub struct Heading {
+    pub layout: Layout,
+    pub max_rect: Rect,
+    pub spacing: Vec2,
+}
+
+// G.
+pub struct GridOptions {
+    pub min_cell_size: Vec2,
+    // Each may be +infinity.
+    pub max_cell_size: Vec2,
+    // 0: not named.
+    pub num_columns: usize,
+    pub start_row: usize,
+}
+
+// Lengths are in points.
+pub enum Step {
+    Widget(f32, f32),
+    Space(f32),
+    RowHeight(f32),
+    MaxWidth(f32),
+    MaxHeight(f32),
+    MinWidth(f32),
+    MinHeight(f32),
+    RowEnd,
+}
+
+pub enum Record {
+    Heading(Heading),
+    Grid(GridOptions),
+    Step(Step),
+    Wrong,
+}
+
+// A field that holds a length, in points.
+pub enum Length {
+    Points(f32),
+    Blank,
+    Wrong,
+}
+
+pub enum Checked {
+    // How many records, and how many of them are W.
+    Accepted(usize, usize),
+    // The number of document 01's table, and the record, from 1.
+    Refused(u8, usize),
+}

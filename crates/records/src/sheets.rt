@@ -1,0 +1,91 @@
+// A whole sheet: numbers 1 to 3 of document 01's table.
+use crate::Checked;
+use crate::MAX_RECORDS;
+use crate::Record;
+use crate::Step;
+use crate::records::next_record;
+use crate::records::read_record;
+ghost use mathlib.Core.Path.{_≡_};
+ghost use Prim.Native.Nat.{_≤_};
+ghost use Rattle.records.specs.Sheets.{placed as placedAt, widgetStep, widget as widgetOf, checked, sized};
+
+// Whether this may be record k, from 1.
+fn placed(k: usize, r: Record) -> bool
+    ensures { λ b. ⌜ b ≡ placedAt k r ⌝ }
+{
+    match r {
+        Record::Heading(_) => k == 1,
+        Record::Grid(_) => k == 2,
+        Record::Step(_) => 1 < k,
+        Record::Wrong => false,
+    }
+}
+
+fn widget_step(st: Step) -> usize
+    ensures { λ n. ⌜ (n ≡ widgetStep st) × (n ≤ 1) ⌝ }
+{
+    match st {
+        Step::Widget(_, _) => 1,
+        Step::Space(_) => 0,
+        Step::RowHeight(_) => 0,
+        Step::MaxWidth(_) => 0,
+        Step::MaxHeight(_) => 0,
+        Step::MinWidth(_) => 0,
+        Step::MinHeight(_) => 0,
+        Step::RowEnd => 0,
+    }
+}
+
+fn widget(r: Record) -> usize
+    ensures { λ n. ⌜ (n ≡ widgetOf r) × (n ≤ 1) ⌝ }
+{
+    match r {
+        Record::Heading(_) => 0,
+        Record::Grid(_) => 0,
+        Record::Step(st) => widget_step(st),
+        Record::Wrong => 0,
+    }
+}
+
+// The text has ended after k records, w of them W.
+fn ended(k: usize, w: usize, room: usize) -> Checked
+    requires { ⌜ w ≤ 512 ⌝ }
+    ensures { λ r. ⌜ r ≡ sized k w room ⌝ }
+{
+    if room < 8 * w {
+        return Checked::Refused(3, 1);
+    }
+    Checked::Accepted(k, w)
+}
+
+// What of 1 to 3 applies to the sheet, with a slice of so many places; or how many records and W it has.
+pub fn check(text: &[u8], room: usize) -> Checked
+    ensures { λ r. ⌜ r ≡ checked (now (text .entry)) room ⌝ }
+{
+    let n = text.len();
+    if n == 0 {
+        return Checked::Refused(1, 1);
+    }
+    let mut at: usize = 0;
+    let mut k: usize = 0;
+    let mut w: usize = 0;
+    let mut left: usize = MAX_RECORDS;
+    while 0 < left {
+        if n <= at {
+            return ended(k, w, room);
+        }
+        let r = read_record(text, at);
+        if placed(k + 1, r) {
+            w += widget(r);
+            at = next_record(text, at);
+            k += 1;
+            left -= 1;
+        } else {
+            return Checked::Refused(1, k + 1);
+        }
+    }
+    if at < n {
+        return Checked::Refused(2, 513);
+    }
+    ended(k, w, room)
+}

@@ -1,0 +1,80 @@
+use Rattle.text.proofs.LineTexts.{wrote, have-this, have-rest, put-more, put-none}
+use Rattle.text.specs.Lines.{haveTexts, texts}
+use lib.ListN.{length, drop, getD}
+use lib.Seq.{sets}
+use lib.IntN.{ℤ, pos}
+use Rattle.text.specs.Fields.{text, hasText}
+use mir.Val.{toZ, ofZ}
+use mir.Syntax.{w32}
+use mathlib.Core.Bool.{true}
+use mathlib.Core.Path.{_≡_, ap, _∙_}
+use Prim.Native.Nat.{_+_, _-_, _*_, _≤_}
+use native.Mathlib.Omega.{arith}
+use borrow.Author.Needs.{needs}
+use Rattle.text.proofs.lines.put_texts.Statement.{statement}
+use Rattle.text.proofs.lines.put_texts.Tie as tie
+
+abbrev Inv-loop : tie.InvT-loop
+Inv-loop out₀ at numbers i₀ q₀ out i q = (length out ≡ length out₀) × (q ≡ at + 8 * i) × (i ≤ length numbers) × (haveTexts (drop i numbers) ≡ true) × (sets out q (texts (drop i numbers)) ≡ sets out₀ at (texts numbers))
+
+abbrev μ-loop : tie.MeasureT-loop
+μ-loop out₀ at numbers i₀ q₀ out i q = length numbers - i
+
+loop-holds : tie.Need-loop-holds Inv-loop μ-loop
+loop-holds c = search needs
+
+mul-z : tie.Need-mul-z Inv-loop μ-loop
+mul-z c = search needs
+
+shared-slice-copy-out-z : tie.Need-shared-slice-copy-out-z Inv-loop μ-loop
+shared-slice-copy-out-z c = search needs
+
+write-field-requires : tie.Need-write-field-requires Inv-loop μ-loop
+write-field-requires c κs = search needs
+
+add-i : tie.Need-add-i Inv-loop μ-loop
+add-i c = search needs
+
+add-q : tie.Need-add-q Inv-loop μ-loop
+add-q c = search needs
+
+loop-less : tie.Need-loop-less Inv-loop μ-loop
+loop-less c = search needs
+
+loop-again : tie.Need-loop-again Inv-loop μ-loop
+loop-again c =
+    let zs = c .before .before .before .before .before .before .before .before .args .numbers .now in
+    let l = c .before .before .before .before .before .before .loop in
+    let e : toZ w32 (ofZ w32 (getD (c .before .before .before .before .before .before .before .before .args .numbers .now) (c .before .before .before .before .before .before .loop .i) (pos 0))) ≡ getD (c .before .before .before .before .before .before .before .before .args .numbers .now) (c .before .before .before .before .before .before .loop .i) (pos 0) = search needs in
+    let t : hasText (getD zs (l .i) (pos 0)) ≡ true = have-this zs (l .i) (c .before .before .before .before .before .loop-test .taken) (l .inv .3) in
+    let room : l .q + 8 ≤ length (l .out) = omega arith in
+    let w = wrote _ _ _ _ _ (c .before .before .write-field .ensures) room (rw e t) in (
+      c .before .before .write-field .kept .0 ∙ l .inv .0,
+      search needs,
+      search needs,
+      have-rest zs (l .i) (c .before .before .before .before .before .loop-test .taken) (l .inv .3),
+      put-more zs (l .i) (c .before .before .before .before .before .loop-test .taken) (l .inv .3) (l .out) _ _ (l .q) (l .inv .4) (w ∙ ap (λ (z : ℤ). sets (l .out) (l .q) (text z)) e),
+    )
+
+same-length : tie.Need-same-length Inv-loop μ-loop
+same-length c = search needs
+
+returns : tie.Need-returns Inv-loop μ-loop
+returns c = put-none (c .before .before .before .args .numbers .now) (c .before .loop .i) _ _ (c .before .loop .q) (c .loop-test .left) (c .before .loop .inv .4)
+
+pub put-texts-spec : {M : Type 1} → statement M
+put-texts-spec =
+    tie.close
+    (tie.spec
+    Inv-loop
+    μ-loop
+    loop-holds
+    mul-z
+    shared-slice-copy-out-z
+    write-field-requires
+    add-i
+    add-q
+    loop-less
+    loop-again
+    same-length
+    returns)

@@ -1,0 +1,123 @@
+// Lines of the printed list: a letter, its numbers in the sheet's columns, one LF.
+use crate::Edges;
+use crate::fields::has_text;
+use crate::fields::write_field;
+ghost use mathlib.Core.Path.{_≡_};
+ghost use mathlib.Core.Bool.{true};
+ghost use mathlib.Core.List.{_++_};
+ghost use Prim.Native.Nat.{_+_, _*_, _≤_};
+ghost use lib.ListN.{length};
+ghost use lib.Seq.{sets};
+ghost use Rattle.text.specs.Lines.{texts, haveTexts, line, lineAt, widgetLine, plateLine, columnLine, rowLine, refusalLine, lineWritten};
+
+fn have_texts(numbers: &[i32]) -> bool
+    ensures { λ r. ⌜ r ≡ haveTexts (now (numbers .entry)) ⌝ }
+{
+    let mut i = 0;
+    while i < numbers.len() {
+        if has_text(numbers[i]) {
+            i += 1;
+        } else {
+            return false;
+        }
+    }
+    true
+}
+
+// Writes the numbers' texts from `at`.
+fn put_texts(out: &mut [u8], at: usize, numbers: &[i32])
+    requires { ⌜ at + 8 * length (now numbers) ≤ length (now out) ⌝ }
+    requires { ⌜ haveTexts (now numbers) ≡ true ⌝ }
+    ensures { λ _. ⌜ now (out .exit) ≡ sets (now (out .entry)) at (texts (now (numbers .entry))) ⌝ }
+{
+    let mut i = 0;
+    let mut q = at;
+    while i < numbers.len() {
+        let z = numbers[i];
+        write_field(out, q, z);
+        i += 1;
+        q += 8;
+    }
+}
+
+fn put_line(out: &mut [u8], at: usize, letter: u8, numbers: &[i32])
+    requires { ⌜ at + (2 + 8 * length (now numbers)) ≤ length (now out) ⌝ }
+    requires { ⌜ haveTexts (now numbers) ≡ true ⌝ }
+    ensures { λ _. ⌜ now (out .exit) ≡ sets (now (out .entry)) at (line letter (now (numbers .entry))) ⌝ }
+{
+    let n = numbers.len();
+    out[at] = letter;
+    put_texts(out, at + 1, numbers);
+    out[at + 1 + 8 * n] = 10;
+}
+
+// Writes a line from `at`, where it has room and each number a text; else nothing is written, and the answer is false.
+pub fn write_line(out: &mut [u8], at: usize, letter: u8, numbers: &[i32]) -> bool
+    ensures { λ r. ⌜ (r, now (out .exit)) ≡ lineAt (now (out .entry)) at letter (now (numbers .entry)) ⌝ }
+{
+    let m = out.len();
+    if m < 2 {
+        return false;
+    }
+    if m - 2 < at {
+        return false;
+    }
+    if (m - 2 - at) / 8 < numbers.len() {
+        return false;
+    }
+    if have_texts(numbers) {
+        put_line(out, at, letter, numbers);
+        return true;
+    }
+    false
+}
+
+// W: the record's number, and the edges of its frame and its widget.
+pub fn widget_line(out: &mut [u8], at: usize, number: i32, frame: Edges, widget: Edges) -> bool
+    ensures { λ r. ⌜ (r, now (out .exit)) ≡ lineWritten (now (out .entry)) at (widgetLine number frame widget) ⌝ }
+{
+    let numbers = [
+        number,
+        frame.left,
+        frame.top,
+        frame.right,
+        frame.bottom,
+        widget.left,
+        widget.top,
+        widget.right,
+        widget.bottom,
+    ];
+    write_line(out, at, b'W', &numbers)
+}
+
+// P: the plate's edges.
+pub fn plate_line(out: &mut [u8], at: usize, plate: Edges) -> bool
+    ensures { λ r. ⌜ (r, now (out .exit)) ≡ lineWritten (now (out .entry)) at (plateLine plate) ⌝ }
+{
+    let numbers = [plate.left, plate.top, plate.right, plate.bottom];
+    write_line(out, at, b'P', &numbers)
+}
+
+// C: a column's index, from 0, and its width.
+pub fn column_line(out: &mut [u8], at: usize, index: i32, width: i32) -> bool
+    ensures { λ r. ⌜ (r, now (out .exit)) ≡ lineWritten (now (out .entry)) at (columnLine index width) ⌝ }
+{
+    let numbers = [index, width];
+    write_line(out, at, b'C', &numbers)
+}
+
+// D: a row's index, from 0, and its height.
+pub fn row_line(out: &mut [u8], at: usize, index: i32, height: i32) -> bool
+    ensures { λ r. ⌜ (r, now (out .exit)) ≡ lineWritten (now (out .entry)) at (rowLine index height) ⌝ }
+{
+    let numbers = [index, height];
+    write_line(out, at, b'D', &numbers)
+}
+
+// X: the refusal's number, and the record's, from 1.
+pub fn refusal_line(out: &mut [u8], at: usize, number: i32, record: i32) -> bool
+    ensures { λ r. ⌜ (r, now (out .exit)) ≡ lineWritten (now (out .entry)) at (refusalLine number «record») ⌝ }
+{
+    let numbers = [number, record];
+    write_line(out, at, b'X', &numbers)
+}

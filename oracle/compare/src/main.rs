@@ -1,4 +1,4 @@
-//! Compares the entry points of crates/probe with layout.rs, grid.rs and placer.rs, with the Rust
+//! Compares the entry points of the probe crates with layout.rs, grid.rs and placer.rs, with the Rust
 //! stand-ins and with document 01's table.
 
 // Without placer.rs some of what the comparisons share has no use.

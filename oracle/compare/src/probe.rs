@@ -1,4 +1,4 @@
-//! The entry points of crates/probe, by the names they have there.
+//! The entry points of crates probe_emath and probe_layout, by the names they have there.
 //!
 //! A bool comes back as a byte: whatever the other side puts there, reading it is sound.
 

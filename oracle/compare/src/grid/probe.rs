@@ -1,4 +1,4 @@
-//! The entry points of crates/probe for crate grid, by the names they have there.
+//! The entry points of crate probe_grid, by the names they have there.
 
 use crate::values::{Edges, State};
 

@@ -1,5 +1,5 @@
-//! The entry points of crates/probe for crate placer, by the names they have there. Where one stands
-//! for several calls, `call` says which.
+//! The entry points of crate probe_placer, by the names they have there. Where one stands for several
+//! calls, `call` says which.
 
 use crate::grid::probe::{Counts, Heights, Lengths, Places, Widths};
 use crate::values::{Edges, Fields, State};

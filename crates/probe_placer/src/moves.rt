@@ -1,14 +1,14 @@
-// The entry points of crate placer that make or change a placer, each giving its answer's number: tests only.
-use crate::grids::grid_of;
-use crate::grids::memory_of;
-use crate::grids::put_memory;
-use crate::grids::put_rest;
-use crate::layout_of;
+// The calls that make or change a placer, each giving its answer's number.
+use crate::placers::answer_placer;
 use crate::placers::placer_of;
-use crate::placers::put_rest_of_placer;
-use crate::rect_of;
-use crate::vec2_of;
+use emath::Rect;
 use placer::Placer;
+use placer::PlacerAnswer;
+use probe_values::grids::grid_of;
+use probe_values::grids::memory_of;
+use probe_values::layouts::layout_of;
+use probe_values::rects::rect_of;
+use probe_values::rects::vec2_of;
 
 #[no_mangle]
 pub extern "C" fn placer_new(
@@ -25,24 +25,19 @@ pub extern "C" fn placer_new(
     out_lengths: &mut [f32; 10],
     out_places: &mut [usize; 5],
 ) -> u8 {
-    let a = Placer::new(rect_of(max_rect), layout_of(layout));
-    let new = a.placer;
-    let g = new.grid;
-    put_memory(
+    answer_placer(
+        out_fields,
+        out_region,
         out_prev_widths,
         out_prev_heights,
         out_prev_counts,
-        g.prev_state,
-    );
-    put_memory(
         out_curr_widths,
         out_curr_heights,
         out_curr_counts,
-        g.curr_state,
-    );
-    put_rest(out_lengths, out_places, g);
-    put_rest_of_placer(out_fields, out_region, new);
-    a.number
+        out_lengths,
+        out_places,
+        Placer::new(rect_of(max_rect), layout_of(layout)),
+    )
 }
 
 #[no_mangle]
@@ -81,27 +76,29 @@ pub extern "C" fn placer_set_grid(
     let p = placer_of(fields, region, grid_of(prev, curr, lengths, places));
     let grid_prev = memory_of(grid_prev_widths, grid_prev_heights, grid_prev_counts);
     let grid_curr = memory_of(grid_curr_widths, grid_curr_heights, grid_curr_counts);
-    let a = p.set_grid(grid_of(grid_prev, grid_curr, grid_lengths, grid_places));
-    let new = a.placer;
-    let g = new.grid;
-    put_memory(
+    answer_placer(
+        out_fields,
+        out_region,
         out_prev_widths,
         out_prev_heights,
         out_prev_counts,
-        g.prev_state,
-    );
-    put_memory(
         out_curr_widths,
         out_curr_heights,
         out_curr_counts,
-        g.curr_state,
-    );
-    put_rest(out_lengths, out_places, g);
-    put_rest_of_placer(out_fields, out_region, new);
-    a.number
+        out_lengths,
+        out_places,
+        p.set_grid(grid_of(grid_prev, grid_curr, grid_lengths, grid_places)),
+    )
 }
 
-// force_set_min_rect, set_cursor, expand_to_include_rect.
+fn changed_by_rect(call: u8, p: Placer, r: Rect) -> PlacerAnswer {
+    match call {
+        0 => p.force_set_min_rect(r),
+        1 => p.set_cursor(r),
+        _ => p.expand_to_include_rect(r),
+    }
+}
+
 #[no_mangle]
 pub extern "C" fn placer_change_by_rect(
     call: u8,
@@ -130,32 +127,34 @@ pub extern "C" fn placer_change_by_rect(
     let prev = memory_of(prev_widths, prev_heights, prev_counts);
     let curr = memory_of(curr_widths, curr_heights, curr_counts);
     let p = placer_of(fields, region, grid_of(prev, curr, lengths, places));
-    let r = rect_of(rect);
-    let a = match call {
-        0 => p.force_set_min_rect(r),
-        1 => p.set_cursor(r),
-        _ => p.expand_to_include_rect(r),
-    };
-    let new = a.placer;
-    let g = new.grid;
-    put_memory(
+    answer_placer(
+        out_fields,
+        out_region,
         out_prev_widths,
         out_prev_heights,
         out_prev_counts,
-        g.prev_state,
-    );
-    put_memory(
         out_curr_widths,
         out_curr_heights,
         out_curr_counts,
-        g.curr_state,
-    );
-    put_rest(out_lengths, out_places, g);
-    put_rest_of_placer(out_fields, out_region, new);
-    a.number
+        out_lengths,
+        out_places,
+        changed_by_rect(call, p, rect_of(rect)),
+    )
 }
 
-// The calls that take one length.
+fn changed_by_length(call: u8, p: Placer, length: f32) -> PlacerAnswer {
+    match call {
+        0 => p.advance_cursor(length),
+        1 => p.set_row_height(length),
+        2 => p.expand_to_include_x(length),
+        3 => p.expand_to_include_y(length),
+        4 => p.set_max_width(length),
+        5 => p.set_max_height(length),
+        6 => p.set_min_width(length),
+        _ => p.set_min_height(length),
+    }
+}
+
 #[no_mangle]
 pub extern "C" fn placer_change_by_length(
     call: u8,
@@ -184,33 +183,19 @@ pub extern "C" fn placer_change_by_length(
     let prev = memory_of(prev_widths, prev_heights, prev_counts);
     let curr = memory_of(curr_widths, curr_heights, curr_counts);
     let p = placer_of(fields, region, grid_of(prev, curr, lengths, places));
-    let a = match call {
-        0 => p.advance_cursor(length),
-        1 => p.set_row_height(length),
-        2 => p.expand_to_include_x(length),
-        3 => p.expand_to_include_y(length),
-        4 => p.set_max_width(length),
-        5 => p.set_max_height(length),
-        6 => p.set_min_width(length),
-        _ => p.set_min_height(length),
-    };
-    let new = a.placer;
-    let g = new.grid;
-    put_memory(
+    answer_placer(
+        out_fields,
+        out_region,
         out_prev_widths,
         out_prev_heights,
         out_prev_counts,
-        g.prev_state,
-    );
-    put_memory(
         out_curr_widths,
         out_curr_heights,
         out_curr_counts,
-        g.curr_state,
-    );
-    put_rest(out_lengths, out_places, g);
-    put_rest_of_placer(out_fields, out_region, new);
-    a.number
+        out_lengths,
+        out_places,
+        changed_by_length(call, p, length),
+    )
 }
 
 #[no_mangle]
@@ -247,23 +232,19 @@ pub extern "C" fn placer_advance_after_rects(
         rect_of(widget_rect),
         vec2_of(item_spacing),
     );
-    let new = a.placer;
-    let g = new.grid;
-    put_memory(
+    answer_placer(
+        out_fields,
+        out_region,
         out_prev_widths,
         out_prev_heights,
         out_prev_counts,
-        g.prev_state,
-    );
-    put_memory(
         out_curr_widths,
         out_curr_heights,
         out_curr_counts,
-        g.curr_state,
-    );
-    put_rest(out_lengths, out_places, g);
-    put_rest_of_placer(out_fields, out_region, new);
-    a.number
+        out_lengths,
+        out_places,
+        a,
+    )
 }
 
 #[no_mangle]
@@ -293,22 +274,17 @@ pub extern "C" fn placer_end_row(
     let prev = memory_of(prev_widths, prev_heights, prev_counts);
     let curr = memory_of(curr_widths, curr_heights, curr_counts);
     let p = placer_of(fields, region, grid_of(prev, curr, lengths, places));
-    let a = p.end_row(vec2_of(item_spacing));
-    let new = a.placer;
-    let g = new.grid;
-    put_memory(
+    answer_placer(
+        out_fields,
+        out_region,
         out_prev_widths,
         out_prev_heights,
         out_prev_counts,
-        g.prev_state,
-    );
-    put_memory(
         out_curr_widths,
         out_curr_heights,
         out_curr_counts,
-        g.curr_state,
-    );
-    put_rest(out_lengths, out_places, g);
-    put_rest_of_placer(out_fields, out_region, new);
-    a.number
+        out_lengths,
+        out_places,
+        p.end_row(vec2_of(item_spacing)),
+    )
 }

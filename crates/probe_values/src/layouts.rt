@@ -1,20 +1,10 @@
-// Entry points for the comparison with the Rust: tests only.
-// Each crate has its own file; what they share is here.
-mod emath_ops;
-mod grid_memory;
-mod grid_moves;
-mod grid_ops;
-mod grids;
-mod layout_fields;
-mod layout_ops;
-mod placer_moves;
-mod placer_ops;
-mod placers;
-
-use emath::Align;
-use emath::Align2;
+// The values of crate layout, and its answers.
+use crate::rects::align_of;
+use crate::rects::number_of_align;
+use crate::rects::put_pos2;
+use crate::rects::put_rect;
+use crate::rects::put_vec2;
 use emath::Pos2;
-use emath::Rangef;
 use emath::Rect;
 use emath::Vec2;
 use layout::Direction;
@@ -25,88 +15,7 @@ use layout::Region;
 use layout::RegionAnswer;
 use layout::SizeAnswer;
 
-fn align_of(n: u8) -> Align {
-    match n {
-        0 => Align::Min,
-        1 => Align::Center,
-        _ => Align::Max,
-    }
-}
-
-fn align2_of(across: u8, down: u8) -> Align2 {
-    Align2 {
-        x: align_of(across),
-        y: align_of(down),
-    }
-}
-
-fn rect_of(v: &[f32; 4]) -> Rect {
-    Rect {
-        left: v[0],
-        top: v[1],
-        right: v[2],
-        bottom: v[3],
-    }
-}
-
-fn vec2_of(v: &[f32; 2]) -> Vec2 {
-    Vec2 { x: v[0], y: v[1] }
-}
-
-fn put_rect(out: &mut [f32; 4], r: Rect) {
-    out[0] = r.left;
-    out[1] = r.top;
-    out[2] = r.right;
-    out[3] = r.bottom;
-}
-
-fn put_vec2(out: &mut [f32; 2], v: Vec2) {
-    out[0] = v.x;
-    out[1] = v.y;
-}
-
-fn put_pos2(out: &mut [f32; 2], p: Pos2) {
-    out[0] = p.x;
-    out[1] = p.y;
-}
-
-fn put_range(out: &mut [f32; 2], r: Rangef) {
-    out[0] = r.min;
-    out[1] = r.max;
-}
-
-fn number_of_align(a: Align) -> u8 {
-    match a {
-        Align::Min => 0,
-        Align::Center => 1,
-        Align::Max => 2,
-    }
-}
-
-// Its two aligns, as 3 times the one across and the one down.
-fn code_of(a: Align2) -> u8 {
-    let across = a.x;
-    let down = a.y;
-    match across {
-        Align::Min => match down {
-            Align::Min => 0,
-            Align::Center => 1,
-            Align::Max => 2,
-        },
-        Align::Center => match down {
-            Align::Min => 3,
-            Align::Center => 4,
-            Align::Max => 5,
-        },
-        Align::Max => match down {
-            Align::Min => 6,
-            Align::Center => 7,
-            Align::Max => 8,
-        },
-    }
-}
-
-fn direction_of(n: u8) -> Direction {
+pub fn direction_of(n: u8) -> Direction {
     match n {
         0 => Direction::LeftToRight,
         1 => Direction::RightToLeft,
@@ -115,7 +24,7 @@ fn direction_of(n: u8) -> Direction {
     }
 }
 
-fn number_of_direction(d: Direction) -> u8 {
+pub fn number_of_direction(d: Direction) -> u8 {
     match d {
         Direction::LeftToRight => 0,
         Direction::RightToLeft => 1,
@@ -124,12 +33,12 @@ fn number_of_direction(d: Direction) -> u8 {
     }
 }
 
-fn number_of_flag(b: bool) -> u8 {
+pub fn number_of_flag(b: bool) -> u8 {
     if b { 1 } else { 0 }
 }
 
 // The six fields in document 01's order.
-fn layout_of(v: &[u8; 6]) -> Layout {
+pub fn layout_of(v: &[u8; 6]) -> Layout {
     Layout {
         main_dir: direction_of(v[0]),
         main_wrap: v[1] != 0,
@@ -140,7 +49,7 @@ fn layout_of(v: &[u8; 6]) -> Layout {
     }
 }
 
-fn put_layout(out: &mut [u8; 6], l: Layout) {
+pub fn put_layout(out: &mut [u8; 6], l: Layout) {
     let main_dir = l.main_dir;
     let main_align = l.main_align;
     let cross_align = l.cross_align;
@@ -153,7 +62,7 @@ fn put_layout(out: &mut [u8; 6], l: Layout) {
 }
 
 // min_rect, max_rect, cursor.
-fn region_of(v: &[f32; 12]) -> Region {
+pub fn region_of(v: &[f32; 12]) -> Region {
     Region {
         min_rect: Rect {
             left: v[0],
@@ -177,7 +86,7 @@ fn region_of(v: &[f32; 12]) -> Region {
 }
 
 // An answer's number; what it carries is written, as document 01 has it: all zero where a rectangle, position or size is refused.
-fn answer_rect(out: &mut [f32; 4], a: RectAnswer) -> u8 {
+pub fn answer_rect(out: &mut [f32; 4], a: RectAnswer) -> u8 {
     match a {
         RectAnswer::Placed(r) => {
             put_rect(out, r);
@@ -190,7 +99,7 @@ fn answer_rect(out: &mut [f32; 4], a: RectAnswer) -> u8 {
     }
 }
 
-fn answer_pos(out: &mut [f32; 2], a: PosAnswer) -> u8 {
+pub fn answer_pos(out: &mut [f32; 2], a: PosAnswer) -> u8 {
     match a {
         PosAnswer::Found(p) => {
             put_pos2(out, p);
@@ -203,7 +112,7 @@ fn answer_pos(out: &mut [f32; 2], a: PosAnswer) -> u8 {
     }
 }
 
-fn answer_size(out: &mut [f32; 2], a: SizeAnswer) -> u8 {
+pub fn answer_size(out: &mut [f32; 2], a: SizeAnswer) -> u8 {
     match a {
         SizeAnswer::Measured(v) => {
             put_vec2(out, v);
@@ -216,7 +125,7 @@ fn answer_size(out: &mut [f32; 2], a: SizeAnswer) -> u8 {
     }
 }
 
-fn put_region(out: &mut [f32; 12], g: Region) {
+pub fn put_region(out: &mut [f32; 12], g: Region) {
     out[0] = g.min_rect.left;
     out[1] = g.min_rect.top;
     out[2] = g.min_rect.right;
@@ -231,7 +140,7 @@ fn put_region(out: &mut [f32; 12], g: Region) {
     out[11] = g.cursor.bottom;
 }
 
-fn answer_region(out: &mut [f32; 12], a: RegionAnswer) -> u8 {
+pub fn answer_region(out: &mut [f32; 12], a: RegionAnswer) -> u8 {
     put_region(out, a.region);
     a.number
 }

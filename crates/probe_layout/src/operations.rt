@@ -1,14 +1,14 @@
-// The entry points of crate layout's operations, each giving its answer's number: tests only.
-use crate::answer_pos;
-use crate::answer_rect;
-use crate::answer_region;
-use crate::answer_size;
-use crate::direction_of;
-use crate::layout_of;
-use crate::put_rect;
-use crate::rect_of;
-use crate::region_of;
-use crate::vec2_of;
+// Crate layout's operations, each giving its answer's number.
+use probe_values::layouts::answer_pos;
+use probe_values::layouts::answer_rect;
+use probe_values::layouts::answer_region;
+use probe_values::layouts::answer_size;
+use probe_values::layouts::direction_of;
+use probe_values::layouts::layout_of;
+use probe_values::layouts::region_of;
+use probe_values::rects::put_rect;
+use probe_values::rects::rect_of;
+use probe_values::rects::vec2_of;
 
 #[no_mangle]
 pub extern "C" fn layout_region_expand_to_include_rect(

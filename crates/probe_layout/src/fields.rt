@@ -1,12 +1,12 @@
-// The entry points of crate layout's constructors, builders and inspectors: tests only.
-use crate::align_of;
-use crate::code_of;
-use crate::direction_of;
-use crate::layout_of;
-use crate::number_of_align;
-use crate::number_of_direction;
-use crate::put_layout;
+// Crate layout's constructors, builders and inspectors.
 use layout::Layout;
+use probe_values::layouts::direction_of;
+use probe_values::layouts::layout_of;
+use probe_values::layouts::number_of_direction;
+use probe_values::layouts::put_layout;
+use probe_values::rects::align_of;
+use probe_values::rects::code_of;
+use probe_values::rects::number_of_align;
 
 #[no_mangle]
 pub extern "C" fn layout_default(out: &mut [u8; 6]) {

@@ -1,4 +1,4 @@
-// A memory and a grid as arrays of numbers: tests only.
+// The values of crate grid, and its answers.
 use emath::Rect;
 use emath::Vec2;
 use grid::GridLayout;
@@ -66,7 +66,7 @@ fn number_of(b: bool) -> usize {
 }
 
 // All but the memories.
-pub fn put_rest(lengths: &mut [f32; 10], places: &mut [usize; 5], g: GridLayout) {
+fn put_rest(lengths: &mut [f32; 10], places: &mut [usize; 5], g: GridLayout) {
     lengths[0] = g.initial_available.left;
     lengths[1] = g.initial_available.top;
     lengths[2] = g.initial_available.right;
@@ -82,6 +82,22 @@ pub fn put_rest(lengths: &mut [f32; 10], places: &mut [usize; 5], g: GridLayout)
     places[2] = g.num_columns;
     places[3] = g.col;
     places[4] = g.row;
+}
+
+pub fn put_grid(
+    prev_widths: &mut [f32; 32],
+    prev_heights: &mut [f32; 128],
+    prev_counts: &mut [usize; 2],
+    curr_widths: &mut [f32; 32],
+    curr_heights: &mut [f32; 128],
+    curr_counts: &mut [usize; 2],
+    lengths: &mut [f32; 10],
+    places: &mut [usize; 5],
+    g: GridLayout,
+) {
+    put_memory(prev_widths, prev_heights, prev_counts, g.prev_state);
+    put_memory(curr_widths, curr_heights, curr_counts, g.curr_state);
+    put_rest(lengths, places, g);
 }
 
 // Place 0 is the length, place 1 is 1 where there is one.

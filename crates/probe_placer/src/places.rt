@@ -1,15 +1,15 @@
-// The entry points of crate placer that read a placer, and save_grid: tests only.
-use crate::answer_pos;
-use crate::answer_rect;
-use crate::answer_size;
-use crate::grids::grid_of;
-use crate::grids::memory_of;
-use crate::grids::put_memory;
-use crate::number_of_flag;
+// The calls that read a placer, and save_grid.
 use crate::placers::placer_of;
-use crate::put_rect;
-use crate::rect_of;
-use crate::vec2_of;
+use probe_values::grids::grid_of;
+use probe_values::grids::memory_of;
+use probe_values::grids::put_memory;
+use probe_values::layouts::answer_pos;
+use probe_values::layouts::answer_rect;
+use probe_values::layouts::answer_size;
+use probe_values::layouts::number_of_flag;
+use probe_values::rects::put_rect;
+use probe_values::rects::rect_of;
+use probe_values::rects::vec2_of;
 
 // is_grid, prefer_right_to_left.
 #[no_mangle]

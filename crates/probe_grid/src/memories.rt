@@ -1,7 +1,7 @@
-// The entry points of crate grid's Memory, each giving its answer's number: tests only.
-use crate::grids::answer_length;
-use crate::grids::memory_of;
-use crate::grids::put_memory;
+// Memory's calls, each giving its answer's number.
+use probe_values::grids::answer_length;
+use probe_values::grids::memory_of;
+use probe_values::grids::put_memory;
 
 #[no_mangle]
 pub extern "C" fn grid_memory_set_min_col_width(

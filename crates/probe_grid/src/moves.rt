@@ -1,17 +1,55 @@
-// The entry points of crate grid's GridLayout that make or change a grid, or save it, each giving its answer's number: tests only.
-use crate::direction_of;
-use crate::grids::grid_of;
-use crate::grids::memory_of;
-use crate::grids::put_memory;
-use crate::grids::put_rest;
-use crate::number_of_flag;
-use crate::put_rect;
-use crate::rect_of;
-use crate::region_of;
+// GridLayout's calls that make or change a grid, or save it, each giving its answer's number.
 use emath::Vec2;
+use grid::GridAnswer;
 use grid::GridLayout;
+use grid::Memory;
+use probe_values::grids::grid_of;
+use probe_values::grids::memory_of;
+use probe_values::grids::put_grid;
+use probe_values::grids::put_memory;
+use probe_values::layouts::direction_of;
+use probe_values::layouts::number_of_flag;
+use probe_values::layouts::region_of;
+use probe_values::rects::put_rect;
+use probe_values::rects::rect_of;
 
 // Options: the spacing, the minimum and the maximum cell.
+fn new_grid(
+    main_dir: u8,
+    region: &[f32; 12],
+    known: u8,
+    m: Memory,
+    sizing_pass: u8,
+    options: &[f32; 6],
+    num_columns: usize,
+    start_row: usize,
+) -> GridAnswer {
+    let spacing = Vec2 {
+        x: options[0],
+        y: options[1],
+    };
+    let min_cell_size = Vec2 {
+        x: options[2],
+        y: options[3],
+    };
+    let max_cell_size = Vec2 {
+        x: options[4],
+        y: options[5],
+    };
+    GridLayout::new(
+        direction_of(main_dir),
+        region_of(region),
+        known != 0,
+        m,
+        sizing_pass != 0,
+        spacing,
+        min_cell_size,
+        max_cell_size,
+        num_columns,
+        start_row,
+    )
+}
+
 #[no_mangle]
 pub extern "C" fn grid_new(
     main_dir: u8,
@@ -34,44 +72,27 @@ pub extern "C" fn grid_new(
     out_places: &mut [usize; 5],
 ) -> u8 {
     let m = memory_of(widths, heights, counts);
-    let spacing = Vec2 {
-        x: options[0],
-        y: options[1],
-    };
-    let min_cell_size = Vec2 {
-        x: options[2],
-        y: options[3],
-    };
-    let max_cell_size = Vec2 {
-        x: options[4],
-        y: options[5],
-    };
-    let a = GridLayout::new(
-        direction_of(main_dir),
-        region_of(region),
-        known != 0,
+    let a = new_grid(
+        main_dir,
+        region,
+        known,
         m,
-        sizing_pass != 0,
-        spacing,
-        min_cell_size,
-        max_cell_size,
+        sizing_pass,
+        options,
         num_columns,
         start_row,
     );
-    let new = a.grid;
-    put_memory(
+    put_grid(
         out_prev_widths,
         out_prev_heights,
         out_prev_counts,
-        new.prev_state,
-    );
-    put_memory(
         out_curr_widths,
         out_curr_heights,
         out_curr_counts,
-        new.curr_state,
+        out_lengths,
+        out_places,
+        a.grid,
     );
-    put_rest(out_lengths, out_places, new);
     a.number
 }
 
@@ -109,20 +130,17 @@ pub extern "C" fn grid_advance(
         rect_of(widget_rect),
     );
     let moved = a.moved;
-    let new = moved.grid;
-    put_memory(
+    put_grid(
         out_prev_widths,
         out_prev_heights,
         out_prev_counts,
-        new.prev_state,
-    );
-    put_memory(
         out_curr_widths,
         out_curr_heights,
         out_curr_counts,
-        new.curr_state,
+        out_lengths,
+        out_places,
+        moved.grid,
     );
-    put_rest(out_lengths, out_places, new);
     put_rect(out_cursor, moved.cursor);
     a.number
 }
@@ -154,20 +172,17 @@ pub extern "C" fn grid_end_row(
     let g = grid_of(prev, curr, lengths, places);
     let a = g.end_row(direction_of(main_dir), rect_of(cursor));
     let moved = a.moved;
-    let new = moved.grid;
-    put_memory(
+    put_grid(
         out_prev_widths,
         out_prev_heights,
         out_prev_counts,
-        new.prev_state,
-    );
-    put_memory(
         out_curr_widths,
         out_curr_heights,
         out_curr_counts,
-        new.curr_state,
+        out_lengths,
+        out_places,
+        moved.grid,
     );
-    put_rest(out_lengths, out_places, new);
     put_rect(out_cursor, moved.cursor);
     a.number
 }

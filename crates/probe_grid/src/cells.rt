@@ -1,12 +1,12 @@
-// The entry points of crate grid's GridLayout that read a grid, each giving its answer's number: tests only.
-use crate::answer_rect;
-use crate::direction_of;
-use crate::grids::answer_length;
-use crate::grids::grid_of;
-use crate::grids::memory_of;
-use crate::rect_of;
-use crate::region_of;
-use crate::vec2_of;
+// GridLayout's calls that read a grid, each giving its answer's number.
+use probe_values::grids::answer_length;
+use probe_values::grids::grid_of;
+use probe_values::grids::memory_of;
+use probe_values::layouts::answer_rect;
+use probe_values::layouts::direction_of;
+use probe_values::layouts::region_of;
+use probe_values::rects::rect_of;
+use probe_values::rects::vec2_of;
 
 #[no_mangle]
 pub extern "C" fn grid_prev_col_width(

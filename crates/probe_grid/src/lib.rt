@@ -1,0 +1,4 @@
+// The entry points of crate grid: tests only.
+mod cells;
+mod memories;
+mod moves;

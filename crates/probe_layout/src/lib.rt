@@ -1,0 +1,3 @@
+// The entry points of crate layout: tests only.
+mod fields;
+mod operations;

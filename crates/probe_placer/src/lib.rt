@@ -1,0 +1,4 @@
+// The entry points of crate placer: tests only.
+mod moves;
+mod placers;
+mod places;

@@ -1,5 +1,5 @@
 //! Compares the entry points of the probe crates with layout.rs, grid.rs and placer.rs, with the Rust
-//! stand-ins and with document 01's table.
+//! stand-ins, with document 01's table and with a parser of its sheet.
 
 // Without placer.rs some of what the comparisons share has no use.
 #![cfg_attr(not(feature = "placer"), allow(dead_code))]
@@ -17,6 +17,7 @@ mod layout;
 mod placer;
 mod probe;
 mod rng;
+mod sheet;
 mod tally;
 mod values;
 
@@ -29,13 +30,13 @@ const SEED: u64 = 1;
 
 /// A run that compares fewer has gone wrong, whatever it found.
 const FEWEST: u64 = if cfg!(feature = "placer") {
-    40_000_000
+    55_000_000
 } else if cfg!(feature = "grid") {
-    30_000_000
+    45_000_000
 } else if cfg!(feature = "layout") {
-    20_000_000
+    35_000_000
 } else {
-    2_000_000
+    20_000_000
 };
 
 /// `--seed N` and `--times K`.
@@ -72,6 +73,7 @@ fn main() -> ExitCode {
     grid::compare(&mut tally);
     #[cfg(feature = "placer")]
     placer::compare(&mut tally);
+    sheet::compare(&mut tally);
     let Tally {
         cases,
         differences,

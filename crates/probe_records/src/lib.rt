@@ -1,0 +1,124 @@
+// The entry points of crates text and records: tests only.
+use probe_values::layouts::number_of_direction;
+use probe_values::layouts::number_of_flag;
+use probe_values::rects::number_of_align;
+use records::Checked;
+use records::GridOptions;
+use records::Heading;
+use records::Record;
+use records::Step;
+use records::records::read_record;
+use records::sheets::check;
+use text::Field;
+use text::fields::read_field;
+use text::fields::write_field;
+use text::lines::write_line;
+
+// 0 wrong, 1 blank, 2 a number.
+#[no_mangle]
+pub extern "C" fn field_read(text: &[u8], at: usize, limit: u32, value: &mut [i32; 1]) -> u8 {
+    match read_field(text, at, limit) {
+        Field::Wrong => 0,
+        Field::Blank => 1,
+        Field::Number(z) => {
+            value[0] = z;
+            2
+        }
+    }
+}
+
+#[no_mangle]
+pub extern "C" fn field_write(out: &mut [u8], at: usize, z: i32) -> bool {
+    write_field(out, at, z)
+}
+
+#[no_mangle]
+pub extern "C" fn line_write(out: &mut [u8], at: usize, letter: u8, numbers: &[i32]) -> bool {
+    write_line(out, at, letter, numbers)
+}
+
+// Its layout's six fields, then max_rect's edges and the spacings.
+fn put_heading(lengths: &mut [f32; 6], counts: &mut [usize; 6], h: Heading) -> u8 {
+    let l = h.layout;
+    let main_dir = l.main_dir;
+    let main_align = l.main_align;
+    let cross_align = l.cross_align;
+    counts[0] = number_of_direction(main_dir) as usize;
+    counts[1] = number_of_flag(l.main_wrap) as usize;
+    counts[2] = number_of_align(main_align) as usize;
+    counts[3] = number_of_flag(l.main_justify) as usize;
+    counts[4] = number_of_align(cross_align) as usize;
+    counts[5] = number_of_flag(l.cross_justify) as usize;
+    lengths[0] = h.max_rect.left;
+    lengths[1] = h.max_rect.top;
+    lengths[2] = h.max_rect.right;
+    lengths[3] = h.max_rect.bottom;
+    lengths[4] = h.spacing.x;
+    lengths[5] = h.spacing.y;
+    1
+}
+
+// The minimum and the maximum cell; the columns, 0 for not named, and the start row.
+fn put_options(lengths: &mut [f32; 6], counts: &mut [usize; 6], g: GridOptions) -> u8 {
+    lengths[0] = g.min_cell_size.x;
+    lengths[1] = g.min_cell_size.y;
+    lengths[2] = g.max_cell_size.x;
+    lengths[3] = g.max_cell_size.y;
+    counts[0] = g.num_columns;
+    counts[1] = g.start_row;
+    2
+}
+
+fn put_length(lengths: &mut [f32; 6], kind: u8, x: f32) -> u8 {
+    lengths[0] = x;
+    kind
+}
+
+fn put_step(lengths: &mut [f32; 6], st: Step) -> u8 {
+    match st {
+        Step::Widget(width, height) => {
+            lengths[0] = width;
+            lengths[1] = height;
+            3
+        }
+        Step::Space(x) => put_length(lengths, 4, x),
+        Step::RowHeight(x) => put_length(lengths, 5, x),
+        Step::MaxWidth(x) => put_length(lengths, 6, x),
+        Step::MaxHeight(x) => put_length(lengths, 7, x),
+        Step::MinWidth(x) => put_length(lengths, 8, x),
+        Step::MinHeight(x) => put_length(lengths, 9, x),
+        Step::RowEnd => 10,
+    }
+}
+
+// 0 wrong, 1 a heading, 2 a grid's options, 3 to 10 the steps; places that it does not name keep what they hold.
+#[no_mangle]
+pub extern "C" fn record_read(
+    text: &[u8],
+    at: usize,
+    lengths: &mut [f32; 6],
+    counts: &mut [usize; 6],
+) -> u8 {
+    match read_record(text, at) {
+        Record::Heading(h) => put_heading(lengths, counts, h),
+        Record::Grid(g) => put_options(lengths, counts, g),
+        Record::Step(st) => put_step(lengths, st),
+        Record::Wrong => 0,
+    }
+}
+
+// The number, 0 for none; then the records and the W, or the record at fault.
+#[no_mangle]
+pub extern "C" fn sheet_check(text: &[u8], room: usize, counts: &mut [usize; 2]) -> u8 {
+    match check(text, room) {
+        Checked::Accepted(records, widgets) => {
+            counts[0] = records;
+            counts[1] = widgets;
+            0
+        }
+        Checked::Refused(number, record) => {
+            counts[0] = record;
+            number
+        }
+    }
+}

@@ -1,0 +1,70 @@
+//! The entry points for a sheet's text, by the names they have in crates/probe. A slice goes there
+//! as a pointer and a length, and a bool comes back as a byte.
+
+use super::answers::{Checked, FieldRead, RecordRead, Written};
+
+unsafe extern "C" {
+    fn field_read(text: *const u8, len: usize, at: usize, limit: u32, value: &mut [i32; 1]) -> u8;
+    fn field_write(out: *mut u8, len: usize, at: usize, z: i32) -> u8;
+    fn record_read(
+        text: *const u8,
+        len: usize,
+        at: usize,
+        lengths: &mut [f32; 6],
+        counts: &mut [usize; 6],
+    ) -> u8;
+    fn sheet_check(text: *const u8, len: usize, room: usize, counts: &mut [usize; 2]) -> u8;
+    fn line_write(
+        out: *mut u8,
+        len: usize,
+        at: usize,
+        letter: u8,
+        numbers: *const i32,
+        count: usize,
+    ) -> u8;
+}
+
+// Each reads and writes no more than what it is lent, and ends: that is proved there, so the calls
+// below are sound.
+
+pub fn read_field(text: &[u8], at: usize, limit: u32) -> FieldRead {
+    let mut read = FieldRead::UNTOUCHED;
+    let value = &mut read.value;
+    read.kind = unsafe { field_read(text.as_ptr(), text.len(), at, limit, value) };
+    read
+}
+
+pub fn read_record(text: &[u8], at: usize) -> RecordRead {
+    let mut read = RecordRead::UNTOUCHED;
+    let (lengths, counts) = (&mut read.lengths, &mut read.counts);
+    read.kind = unsafe { record_read(text.as_ptr(), text.len(), at, lengths, counts) };
+    read
+}
+
+pub fn check(text: &[u8], room: usize) -> Checked {
+    let mut checked = Checked::UNTOUCHED;
+    let counts = &mut checked.counts;
+    checked.number = unsafe { sheet_check(text.as_ptr(), text.len(), room, counts) };
+    checked
+}
+
+/// Of `bytes` the first `len` are lent.
+pub fn write_field(mut bytes: Vec<u8>, len: usize, at: usize, z: i32) -> Written {
+    let out = &mut bytes[..len];
+    let written = unsafe { field_write(out.as_mut_ptr(), len, at, z) };
+    Written { written, bytes }
+}
+
+/// Of `bytes` the first `len` are lent.
+pub fn write_line(
+    mut bytes: Vec<u8>,
+    len: usize,
+    at: usize,
+    letter: u8,
+    numbers: &[i32],
+) -> Written {
+    let out = &mut bytes[..len];
+    let (first, count) = (numbers.as_ptr(), numbers.len());
+    let written = unsafe { line_write(out.as_mut_ptr(), len, at, letter, first, count) };
+    Written { written, bytes }
+}

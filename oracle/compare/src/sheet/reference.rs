@@ -1,0 +1,202 @@
+//! A sheet's text as document 01's section "The sheet" has it, and numbers 1 to 3 of its table.
+
+use std::ops::RangeInclusive;
+
+use crate::values::{LIMIT_TICKS, TICKS_PER_POINT};
+
+/// "right-justified in 8 columns".
+pub const COLUMNS: usize = 8;
+
+/// "at most 512 records".
+pub const MOST_RECORDS: usize = 512;
+
+/// "W number k, from 0, fills places 8k to 8k + 7".
+pub const PLACES: usize = 8;
+
+pub enum Field {
+    Wrong,
+    Blank,
+    Number(i32),
+}
+
+/// The field in the 8 columns from `at` on; `limit` bounds the number's magnitude.
+pub fn field(text: &[u8], at: usize, limit: u32) -> Field {
+    let columns = text.get(at..).and_then(|rest| rest.get(..COLUMNS));
+    let Some(columns) = columns.and_then(|bytes| str::from_utf8(bytes).ok()) else {
+        return Field::Wrong;
+    };
+    let number = columns.trim_start_matches(' ');
+    if number.is_empty() {
+        return Field::Blank;
+    }
+    let digits = number.strip_prefix('-').unwrap_or(number);
+    let plain = digits.bytes().all(|b| b.is_ascii_digit());
+    // parse alone would take a plus, leading zeros and -0.
+    match number.parse::<i32>() {
+        Ok(0) if number == "0" => Field::Number(0),
+        Ok(n) if plain && !digits.starts_with('0') && n.unsigned_abs() <= limit => Field::Number(n),
+        _ => Field::Wrong,
+    }
+}
+
+pub enum Record {
+    Heading {
+        layout: [usize; 6],
+        max_rect: [f32; 4],
+        spacing: [f32; 2],
+    },
+    Grid {
+        min_cell: [f32; 2],
+        max_cell: [f32; 2],
+        columns: Option<usize>,
+        start_row: usize,
+    },
+    Widget([f32; 2]),
+    Space(f32),
+    RowHeight(f32),
+    MaxWidth(f32),
+    MaxHeight(f32),
+    MinWidth(f32),
+    MinHeight(f32),
+    RowEnd,
+}
+
+/// What is left of a record, to be taken field by field.
+struct Fields<'a>(&'a [u8]);
+
+impl Fields<'_> {
+    fn next(&mut self, limit: u32) -> Field {
+        let field = field(self.0, 0, limit);
+        self.0 = self.0.get(COLUMNS..).unwrap_or_default();
+        field
+    }
+
+    /// A number, or nothing where the field is blank.
+    fn number(&mut self, limit: u32) -> Option<Option<i32>> {
+        match self.next(limit) {
+            Field::Wrong => None,
+            Field::Blank => Some(None),
+            Field::Number(n) => Some(Some(n)),
+        }
+    }
+
+    fn length_or_blank(&mut self) -> Option<Option<f32>> {
+        let ticks = self.number(LIMIT_TICKS as u32)?;
+        Some(ticks.map(|n| n as f32 / TICKS_PER_POINT))
+    }
+
+    fn length(&mut self) -> Option<f32> {
+        self.length_or_blank()?
+    }
+
+    /// "maximum width and height (blank: infinite)".
+    fn max_length(&mut self) -> Option<f32> {
+        Some(self.length_or_blank()?.unwrap_or(f32::INFINITY))
+    }
+
+    fn within_or_blank(&mut self, range: RangeInclusive<i32>) -> Option<Option<usize>> {
+        match self.number(u32::MAX)? {
+            Some(n) if range.contains(&n) => Some(Some(n as usize)),
+            Some(_) => None,
+            None => Some(None),
+        }
+    }
+
+    fn within(&mut self, range: RangeInclusive<i32>) -> Option<usize> {
+        self.within_or_blank(range)?
+    }
+}
+
+/// The record that a line is, its LF with it.
+fn record(line: &[u8]) -> Option<Record> {
+    let (letter, rest) = line.split_first()?;
+    let mut f = Fields(rest);
+    let record = match letter {
+        b'H' => Record::Heading {
+            layout: [
+                f.within(0..=3)?,
+                f.within(0..=1)?,
+                f.within(0..=2)?,
+                f.within(0..=1)?,
+                f.within(0..=2)?,
+                f.within(0..=1)?,
+            ],
+            max_rect: [f.length()?, f.length()?, f.length()?, f.length()?],
+            spacing: [f.length()?, f.length()?],
+        },
+        b'G' => Record::Grid {
+            min_cell: [f.length()?, f.length()?],
+            max_cell: [f.max_length()?, f.max_length()?],
+            columns: f.within_or_blank(1..=32)?,
+            start_row: f.within(0..=127)?,
+        },
+        b'W' => Record::Widget([f.length()?, f.length()?]),
+        b'S' => Record::Space(f.length()?),
+        b'R' => Record::RowHeight(f.length()?),
+        b'L' => Record::MaxWidth(f.length()?),
+        b'K' => Record::MaxHeight(f.length()?),
+        b'N' => Record::MinWidth(f.length()?),
+        b'T' => Record::MinHeight(f.length()?),
+        b'E' => Record::RowEnd,
+        _ => return None,
+    };
+    (f.0 == b"\n").then_some(record)
+}
+
+/// The lines of a text, each with its LF; the last may lack it.
+pub fn lines(text: &[u8]) -> impl Iterator<Item = &[u8]> {
+    text.split_inclusive(|&byte| byte == b'\n')
+}
+
+pub fn record_at(text: &[u8], at: usize) -> Option<Record> {
+    record(lines(text.get(at..)?).next()?)
+}
+
+pub enum Outcome {
+    Accepted { records: usize, widgets: usize },
+    Refused { number: u8, record: usize },
+}
+
+/// What numbers 1 to 3 make of a sheet whose lent slice has `room` places.
+pub fn check(text: &[u8], room: usize) -> Outcome {
+    let refused = |number, record| Outcome::Refused { number, record };
+    if text.is_empty() {
+        return refused(1, 1);
+    }
+    let (mut records, mut widgets) = (0, 0);
+    for line in lines(text) {
+        if records == MOST_RECORDS {
+            return refused(2, MOST_RECORDS + 1);
+        }
+        records += 1;
+        let in_place = match record(line) {
+            Some(Record::Heading { .. }) => records == 1,
+            Some(Record::Grid { .. }) => records == 2,
+            Some(_) => records != 1,
+            None => false,
+        };
+        if !in_place {
+            return refused(1, records);
+        }
+        widgets += usize::from(line[0] == b'W');
+    }
+    if room < PLACES * widgets {
+        return refused(3, 1);
+    }
+    Outcome::Accepted { records, widgets }
+}
+
+/// A number in 8 columns, if it fits them.
+pub fn columns(n: i32) -> Option<String> {
+    Some(format!("{n:>COLUMNS$}")).filter(|text| text.len() == COLUMNS)
+}
+
+/// A line of output, if each of its numbers has a text.
+pub fn line(letter: u8, numbers: &[i32]) -> Option<Vec<u8>> {
+    let mut line = vec![letter];
+    for &n in numbers {
+        line.extend(columns(n)?.bytes());
+    }
+    line.push(b'\n');
+    Some(line)
+}

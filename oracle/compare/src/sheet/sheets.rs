@@ -1,0 +1,109 @@
+//! Whole sheets, well-formed and damaged: what the check makes of each, and every record in it.
+
+use super::answers::{Checked, RecordRead};
+use super::counts::Counts;
+use super::damage::damage;
+use super::reference::{self, MOST_RECORDS, PLACES, lines};
+use super::{probe, texts};
+use crate::rng::Rng;
+use crate::tally::{Shown, Tally};
+
+const SHEETS: &str = "sheet_check";
+const RECORDS: &str = "record_read";
+
+const THOUSANDS: u64 = 1_200;
+
+/// The kinds of record, as record_read numbers them.
+const RECORD_KINDS: [&str; 11] = ["none", "H", "G", "W", "S", "R", "L", "K", "N", "T", "E"];
+
+/// A text, and the places lent or where the record starts.
+struct Case<'a>(&'a [u8], &'a str, usize);
+
+impl Shown for Case<'_> {
+    fn show(&self) -> String {
+        let Self(text, words, n) = self;
+        format!("\"{}\", {words} {n}", text.escape_ascii())
+    }
+}
+
+/// As many places as the W need, most often; else too few, or more.
+fn room(rng: &mut Rng, need: usize) -> usize {
+    match rng.below(12) {
+        0 => need.saturating_sub(1),
+        1 => rng.below(need as u32 + 1) as usize,
+        2 => 0,
+        3 => need + 1 + rng.below(64) as usize,
+        4 => PLACES * MOST_RECORDS,
+        5 => usize::MAX - rng.below(2) as usize,
+        _ => need,
+    }
+}
+
+/// Anywhere in a text, right after it, or as far as numbers go.
+fn offset(rng: &mut Rng, len: usize) -> usize {
+    match rng.below(8) {
+        0 => len + rng.below(3) as usize,
+        1 => usize::MAX - rng.below(100) as usize,
+        _ => rng.below(len as u32 + 1) as usize,
+    }
+}
+
+/// Reads a record on both sides.
+fn read(t: &mut Tally, text: &[u8], at: usize, kinds: &mut [u64; RECORD_KINDS.len()]) {
+    let ours = probe::read_record(text, at);
+    let theirs = RecordRead::from(reference::record_at(text, at));
+    kinds[usize::from(theirs.kind)] += 1;
+    t.agree(RECORDS, &Case(text, "at", at), &ours, &theirs);
+}
+
+pub fn compare(t: &mut Tally) {
+    let mut rng = Rng::new(t.seed, SHEETS);
+    let mut counts = Counts::new();
+    let mut kinds = [0; RECORD_KINDS.len()];
+    let (mut sheets_differ, mut records_differ) = (0, 0);
+    let sheets = THOUSANDS * 1_000 * t.times;
+    for _ in 0..sheets {
+        let mut drawn = texts::sheet(&mut rng);
+        let damaged = if rng.one_in(2) {
+            damage(&mut rng, &mut drawn)
+        } else {
+            None
+        };
+        let text = drawn.concat();
+        let widgets = lines(&text).filter(|line| line[0] == b'W').count();
+        let room = room(&mut rng, PLACES * widgets);
+
+        let before = t.differences;
+        let ours = probe::check(&text, room);
+        let theirs = Checked::from(reference::check(&text, room));
+        counts.note_text(&damaged, theirs.number);
+        counts.note_corners(&text, widgets, room, (theirs.number, theirs.counts[0]));
+        t.agree(SHEETS, &Case(&text, "room", room), &ours, &theirs);
+        sheets_differ += t.differences - before;
+
+        let before = t.differences;
+        let mut at = 0;
+        for line in lines(&text) {
+            read(t, &text, at, &mut kinds);
+            at += line.len();
+        }
+        for _ in 0..2 {
+            let at = offset(&mut rng, text.len());
+            read(t, &text, at, &mut kinds);
+        }
+        records_differ += t.differences - before;
+    }
+    println!("{SHEETS}: {sheets} cases, {sheets_differ} differ");
+    counts.show_numbers(t);
+    let records = kinds.iter().sum::<u64>();
+    println!("{RECORDS}: {records} cases, {records_differ} differ");
+    let shown = RECORD_KINDS.iter().zip(kinds);
+    let shown = shown.map(|(words, count)| format!("{words}: {count}"));
+    println!("  {}", shown.collect::<Vec<_>>().join(", "));
+    for (words, count) in RECORD_KINDS.iter().zip(kinds) {
+        if count == 0 {
+            t.lacking(&format!("a record read as {words}"));
+        }
+    }
+    counts.show_damage(t);
+}

@@ -1,0 +1,163 @@
+-- Document 01, "The sheet" and "Turned back": one pass over a sheet's records, by the placer's rules. Where a call rounds, the step is
+-- 1 / 2 ^ k point; a tick is the step at k = 5.
+use Prim.Native.Nat.{ℕ, zero, suc, _+_}
+use mathlib.Core.Bool.{Bool, true, false, cond}
+use mathlib.Core.List.{List, [], _∷_, _++_}
+use lib.Dec.{eqb}
+use lib.Ieee.{Float}
+use Rattle.emath.specs.Refusals.{least, orElse, lengthFault, extentFault, pairFault, sizeFault, rectFault, edgesFault, outside, frameFault}
+use Rattle.emath.specs.declared.Rect.{Rect}
+use Rattle.emath.specs.declared.Vec2.{Vec2}
+use Rattle.layout.specs.Refusals.{zeroRect}
+use Rattle.grid.specs.Memories.{emptyMemory}
+use Rattle.grid.specs.Operations.{checkedNew}
+use Rattle.grid.specs.declared.Memory.{Memory}
+use Rattle.grid.specs.declared.GridAnswer.{GridAnswer}
+use Rattle.grid.specs.declared.Saved.{Saved}
+use Rattle.placer.specs.Rules.{newPlacer, saveGrid, nextSpace, justifyAndAlign, advanceAfterRects, setMaxWidth, setMaxHeight, setMinWidth, setMinHeight}
+use Rattle.placer.specs.Refusals.{placerFault, advanceFault, zeroPlacer, changed}
+use Rattle.placer.specs.Operations.{checkedSetGrid, checkedAdvanceCursor, checkedEndRow, checkedSetRowHeight}
+use Rattle.placer.specs.declared.Placer.{Placer}
+use Rattle.placer.specs.declared.PlacerAnswer.{PlacerAnswer}
+use Rattle.records.specs.declared.Heading.{Heading}
+use Rattle.records.specs.declared.GridOptions.{GridOptions}
+use Rattle.records.specs.declared.Step.{Step}
+use Rattle.records.specs.declared.Step.the-variants.{Widget, Space, RowHeight, MaxWidth, MaxHeight, MinWidth, MinHeight, RowEnd}
+
+-- a sheet that 1 to 3 do not turn back: H, G if there is one, and the records after them
+pub record Sheet : Type 0 where
+  pub heading : Heading
+  pub «has_grid» : Bool
+  pub options : GridOptions
+  pub steps : List Step
+
+-- ---- what a record gives
+-- a W's rectangles
+pub record Cell : Type 0 where
+  pub frame : Rect
+  pub widget : Rect
+
+-- its number (0: none), the placer after it, and the rectangles of a W
+pub record Stepped : Type 0 where
+  pub number : ℕ
+  pub placer : Placer
+  pub cells : List Cell
+
+-- "W width height: `next_space`, then `justify_and_align`, then `advance_after_rects`"
+abbrev pub cellOf : ℕ → Vec2 → Placer → Vec2 → Cell
+cellOf k sp p s = record { frame = nextSpace k p s sp; widget = justifyAndAlign k p (nextSpace k p s sp) s }
+
+abbrev pub pastCell : Vec2 → Placer → Cell → Placer
+pastCell sp p c = advanceAfterRects p (c .frame) (c .widget) sp
+
+-- "Checked in rising order", over the three calls: 4 to 8 of what they are given, then 9 and 10 of the frame, the widget and the new state
+unfoldable pub widgetFault : Vec2 → Placer → Vec2 → Cell → ℕ
+widgetFault sp p s c =
+    orElse (least (placerFault p ∷ sizeFault s ∷ pairFault (sp .x) (sp .y) ∷ advanceFault p ∷ []))
+    (least (frameFault (c .frame) ∷ outside (edgesFault (c .widget)) ∷ outside (placerFault (pastCell sp p c)) ∷ []))
+
+unfoldable pub widgetStep : Vec2 → Placer → Vec2 → Cell → Stepped
+widgetStep sp p s c = record { number = widgetFault sp p s c; placer = cond (eqb (widgetFault sp p s c) 0) (pastCell sp p c) p; cells = c ∷ [] }
+
+-- a record that is one call
+abbrev pub called : PlacerAnswer → Stepped
+called a = record { number = a .number; placer = a .placer; cells = [] }
+
+-- "S amount `advance_cursor`; E `end_row`; R height `set_row_height`; L, K `set_max_width`, `set_max_height`; N, T `set_min_width`,
+-- `set_min_height`"
+unfoldable pub stepped : ℕ → Vec2 → Placer → Step → Stepped
+stepped k sp p (Widget w h) = widgetStep sp p (record { x = w; y = h }) (cellOf k sp p (record { x = w; y = h }))
+stepped k sp p (Space a) = called (checkedAdvanceCursor p a)
+stepped k sp p RowEnd = called (checkedEndRow p sp)
+stepped k sp p (RowHeight h) = called (checkedSetRowHeight p h)
+stepped k sp p (MaxWidth w) = called (changed (least (placerFault p ∷ extentFault w ∷ [])) p (setMaxWidth k p w))
+stepped k sp p (MaxHeight h) = called (changed (least (placerFault p ∷ extentFault h ∷ [])) p (setMaxHeight k p h))
+stepped k sp p (MinWidth w) = called (changed (least (placerFault p ∷ lengthFault w ∷ [])) p (setMinWidth k p w))
+stepped k sp p (MinHeight h) = called (changed (least (placerFault p ∷ lengthFault h ∷ [])) p (setMinHeight k p h))
+
+-- ---- the records one after the other
+-- how far a pass came: a refusal's number (0: none) and record, the rectangles of the W before the fault, and the placer
+pub record Ran : Type 0 where
+  pub number : ℕ
+  pub at : ℕ
+  pub cells : List Cell
+  pub placer : Placer
+
+-- a record that is not refused is followed by the others
+unfoldable pub followed : ℕ → Stepped → Ran → Ran
+followed n a later =
+    cond (eqb (a .number) 0)
+    (record { number = later .number; at = later .at; cells = a .cells ++ later .cells; placer = later .placer })
+    (record { number = a .number; at = n; cells = []; placer = a .placer })
+
+-- from record n on
+unfoldable pub runFrom : ℕ → Vec2 → ℕ → Placer → List Step → Ran
+runFrom k sp n p [] = record { number = 0; at = 0; cells = []; placer = p }
+runFrom k sp n p (st ∷ rest) = followed n (stepped k sp p st) (runFrom k sp (n + 1) (stepped k sp p st .placer) rest)
+
+-- ---- H, G
+-- H: Placer's `new`
+unfoldable pub headed : ℕ → Heading → PlacerAnswer
+headed k h = changed (rectFault (h .«max_rect»)) (zeroPlacer (h .layout)) (newPlacer k (h .«max_rect») (h .layout))
+
+-- G: GridLayout's `new` with the given memory, then `set_grid`
+unfoldable pub gridOf : Heading → GridOptions → Bool → Memory → Bool → Placer → GridAnswer
+gridOf h o known m sizing p =
+    checkedNew (h .layout .«main_dir») (p .region) known m sizing (h .spacing) (o .«min_cell_size») (o .«max_cell_size») (o .«num_columns») (o .«start_row»)
+
+unfoldable pub gridded : Heading → GridOptions → Bool → Memory → Bool → Placer → PlacerAnswer
+gridded h o known m sizing p =
+    record {
+      number = orElse (gridOf h o known m sizing p .number) (checkedSetGrid p (gridOf h o known m sizing p .grid) .number);
+      placer = checkedSetGrid p (gridOf h o known m sizing p .grid) .placer;
+    }
+
+-- ---- one pass
+-- "The plate is the final min_rect."
+unfoldable pub plateOf : Placer → Rect
+plateOf p = p .region .«min_rect»
+
+-- what a pass gives: the refusal's number and record, the rectangles written, the plate, the memory, and whether it is to be saved
+pub record Outcome : Type 0 where
+  pub number : ℕ
+  pub at : ℕ
+  pub cells : List Cell
+  pub plate : Rect
+  pub memory : Memory
+  pub save : Bool
+
+-- "The memory is then the one given."
+abbrev pub refusedAt : ℕ → ℕ → List Cell → Memory → Outcome
+refusedAt n at cells m = record { number = n; at = at; cells = cells; plate = zeroRect; memory = m; save = false }
+
+-- without a grid the memory is the one given
+unfoldable pub remembered : Bool → Memory → Placer → Saved
+remembered grid m p = cond grid (saveGrid p) (record { memory = m; save = false })
+
+unfoldable pub outcomeOf : Bool → Memory → Ran → Outcome
+outcomeOf grid m r =
+    cond (eqb (r .number) 0)
+    (record { number = 0; at = 0; cells = r .cells; plate = plateOf (r .placer); memory = remembered grid m (r .placer) .memory; save = remembered grid m (r .placer) .save })
+    (refusedAt (r .number) (r .at) (r .cells) m)
+
+-- record n gives a placer, from which the pass goes on, or is refused
+unfoldable pub begun : ℕ → PlacerAnswer → Ran → Ran
+begun n a later = followed n (called a) later
+
+-- the records after H, with G or without
+unfoldable pub ranWith : ℕ → Sheet → Bool → Memory → Bool → Placer → Ran
+ranWith k s known m sizing p =
+    cond (s .«has_grid»)
+    (begun 2 (gridded (s .heading) (s .options) known m sizing p)
+    (runFrom k (s .heading .spacing) 3 (gridded (s .heading) (s .options) known m sizing p .placer) (s .steps)))
+    (runFrom k (s .heading .spacing) 2 p (s .steps))
+
+-- a pass over a sheet with a memory (or none) and a sizing flag
+unfoldable pub pass : ℕ → Sheet → Bool → Memory → Bool → Outcome
+pass k s known m sizing = outcomeOf (s .«has_grid») m (begun 1 (headed k (s .heading)) (ranWith k s known m sizing (headed k (s .heading) .placer)))
+
+-- ---- passes one after the other
+-- "The first pass is without memory and sizing, each later one has the memory that the last one gave, and is not": pass n, from 0
+unfoldable pub passes : ℕ → Sheet → ℕ → Outcome
+passes k s zero = pass k s false emptyMemory true
+passes k s (suc n) = pass k s true (passes k s n .memory) false

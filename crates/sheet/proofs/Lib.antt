@@ -1,0 +1,6 @@
+-- The laws of a sheet's pass. Layers above cite them as Rattle.sheet.proofs.NAME.
+pub mod Runs
+pub mod GridMoves
+pub mod ColumnWidths
+pub mod ColumnRuns
+pub mod Passes

@@ -4,3 +4,5 @@ pub mod GridMoves
 pub mod ColumnWidths
 pub mod ColumnRuns
 pub mod Passes
+pub mod Widest
+pub mod ColumnLaw

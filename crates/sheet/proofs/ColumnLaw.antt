@@ -1,7 +1,7 @@
 -- The column law: in every accepted pass of a grid sheet, with any records, any given memory, sizing or not, a column that holds cells is
 -- counted in the memory given back, and exactly as wide there as the larger of the minimum and its widest control. Assumes nothing.
 use Prim.Native.Nat.{ℕ, zero, suc, _+_, _≤_, _<_}
-use mathlib.Core.Path.{_≡_, refl, ap, sym, _∙_}
+use mathlib.Core.Path.{_≡_, refl, ap, sym, _∙_, subst}
 use mathlib.Core.Bool.{Bool, true, false, cond, _||_}
 use mathlib.Core.List.{List, [], _∷_}
 use native.Mathlib.Omega.{arith}
@@ -100,7 +100,8 @@ module _ (k : ℕ) (l : k ≤ 7) (s : Sheet) (known : Bool) (m : Memory) (sizing
   column-law w g h c some =
       let p = grid-pass k s known m sizing g h in
       let q = runFrom k (s .heading .spacing) 3 begins (s .steps) .placer in
-      let r : Raised smallest c (inColumn c 0 (s .steps)) begins q = rw start-column at (column-run smallest c k l (s .heading .spacing) (w .steps) 3 begins starts (p .run)) in
+      let r : Raised smallest c (inColumn c 0 (s .steps)) begins q
+      = subst (λ (j : ℕ). Raised smallest c (inColumn c j (s .steps)) begins q) start-column (column-run smallest c k l (s .heading .spacing) (w .steps) 3 begins starts (p .run)) in
       let memory : pass k s known m sizing .memory ≡ q .grid .«curr_state» = p .memory ∙ saved-is q (r .inside .grid) in
       let positive = edge-not-negative k l smallest (w .smallest .x) (not-negative (s .options .«min_cell_size») (ap (λ (v : Vec2). sizeFault v) (sym start-least) ∙ least-cell (begins .grid) (placer-grid begins refl (p .gridded))) .0) in
       (rw memory (r .counted some),

@@ -108,7 +108,7 @@ module _ (xs : List Float) (n i : ℕ) (w : Float) (N : n ≤ length xs) (I : i 
   raised-none j other h = entry-none after j other (omega (arith, length-after))
 
 -- ---- zeros beyond the count stay zeros
-pub Beyond : List Float → ℕ → Type 0
+unfoldable pub Beyond : List Float → ℕ → Type 0
 Beyond xs n = (j : ℕ) → n ≤ j → j < length xs → getD xs j nan ≡ zeroF
 
 pub length-zeros : (n : ℕ) → length (zeros n) ≡ n

@@ -51,15 +51,15 @@ pub record Raised (smallest : Float) (c : ℕ) (ws : List Float) (p q : Placer) 
   pub counted : 0 < length ws → c < q .grid .«curr_state» .cols
 
 -- ---- the grid after a W
-advanced-sound : (g : GridLayout) (c v : Rect) → g .col < 32 → g .row < 128 → Sound (g .«curr_state») → Sound (advanced g c v .grid .«curr_state»)
+pub advanced-sound : (g : GridLayout) (c v : Rect) → g .col < 32 → g .row < 128 → Sound (g .«curr_state») → Sound (advanced g c v .grid .«curr_state»)
 unfolding grid-rules.advance
 advanced-sound g c v i j s = rw (is-lt (g .col) 32 i, is-lt (g .row) 128 j) at (advance-sound g c v s)
 
-advanced-is : (g : GridLayout) (c v : Rect) → (advanced g c v .grid .«curr_state» ≡ noted g v) × (advanced g c v .grid .col ≡ g .col + 1) × (advanced g c v .grid .«min_cell_size» ≡ g .«min_cell_size»)
+pub advanced-is : (g : GridLayout) (c v : Rect) → (advanced g c v .grid .«curr_state» ≡ noted g v) × (advanced g c v .grid .col ≡ g .col + 1) × (advanced g c v .grid .«min_cell_size» ≡ g .«min_cell_size»)
 unfolding advanced
 advanced-is g c v = (refl, refl, refl)
 
-ended-is : (g : GridLayout) (c : Rect) → (rowEnded g c .grid .«curr_state» ≡ g .«curr_state») × (rowEnded g c .grid .col ≡ 0) × (rowEnded g c .grid .«min_cell_size» ≡ g .«min_cell_size»)
+pub ended-is : (g : GridLayout) (c : Rect) → (rowEnded g c .grid .«curr_state» ≡ g .«curr_state») × (rowEnded g c .grid .col ≡ 0) × (rowEnded g c .grid .«min_cell_size» ≡ g .«min_cell_size»)
 unfolding rowEnded
 ended-is g c = (refl, refl, refl)
 

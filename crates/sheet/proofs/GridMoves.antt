@@ -63,12 +63,17 @@ pub still-grid : (sp : Vec2) (p : Placer) (c : Cell) → p .«has_grid» ≡ tru
 unfolding advanceAfterRects movedPast expandToIncludeRect
 still-grid sp p c g = rw g
 
+same-layout : (sp : Vec2) (p : Placer) (c : Cell) → p .«has_grid» ≡ true → pastCell sp p c .layout ≡ p .layout
+unfolding advanceAfterRects movedPast expandToIncludeRect setCursor
+same-layout sp p c g = rw g
+
 -- an accepted W of a grid
 pub record GridCell (k : ℕ) (sp : Vec2) (p : Placer) (s : Vec2) : Type 0 where
   pub col : p .grid .col < 32
   pub row : p .grid .row < 128
   pub placed : Placed sp p s (cellOf k sp p s)
   pub still : widgetStep sp p s (cellOf k sp p s) .placer .«has_grid» ≡ true
+  pub layout : widgetStep sp p s (cellOf k sp p s) .placer .layout ≡ p .layout
   pub grid : widgetStep sp p s (cellOf k sp p s) .placer .grid ≡ advanced (p .grid) (p .region .cursor) (cellOf k sp p s .widget) .grid
 
 pub grid-cell : (k : ℕ) (sp : Vec2) (p : Placer) (s : Vec2) → p .«has_grid» ≡ true → widgetStep sp p s (cellOf k sp p s) .number ≡ 0 → GridCell k sp p s
@@ -80,6 +85,7 @@ grid-cell k sp p s g h =
       row = r .1;
       placed = a;
       still = ap (λ (q : Placer). q .«has_grid») (a .placer) ∙ still-grid sp p (cellOf k sp p s) g;
+      layout = ap (λ (q : Placer). q .layout) (a .placer) ∙ same-layout sp p (cellOf k sp p s) g;
       grid = ap (λ (q : Placer). q .grid) (a .placer) ∙ grid-past sp p (cellOf k sp p s) g (r .0) (r .1) }
 
 -- the widget is exactly as wide as the control
@@ -89,16 +95,20 @@ control-width k l sp p s g e c =
     ∙ cell-width k l (p .grid) (p .region .cursor) s (rw (frame-is k sp p s g) at (c .placed .frame)) e
 
 -- ---- E
-pub record RowEnded (p q : Placer) : Type 0 where
+pub record RowEnded (sp : Vec2) (p q : Placer) : Type 0 where
   pub row : p .grid .row < 128
   pub still : q .«has_grid» ≡ true
+  pub layout : q .layout ≡ p .layout
   pub grid : q .grid ≡ rowEnded (p .grid) (p .region .cursor) .grid
+  pub fault : placerFault (endRow p sp) ≡ 0
+  pub is : q ≡ endRow p sp
 
-end-past : (sp : Vec2) (p : Placer) → p .«has_grid» ≡ true → p .grid .row < 128 → (endRow p sp .«has_grid» ≡ true) × (endRow p sp .grid ≡ rowEnded (p .grid) (p .region .cursor) .grid)
+end-past : (sp : Vec2) (p : Placer) → p .«has_grid» ≡ true → p .grid .row < 128
+    → (endRow p sp .«has_grid» ≡ true) × (endRow p sp .grid ≡ rowEnded (p .grid) (p .region .cursor) .grid) × (endRow p sp .layout ≡ p .layout)
 unfolding endRow setCursor grid-rules.endRow
-end-past sp p g j = rw (g, is-lt (p .grid .row) 128 j) (refl, refl)
+end-past sp p g j = rw (g, is-lt (p .grid .row) 128 j) (refl, refl, refl)
 
-pub row-ended : (sp : Vec2) (p : Placer) → p .«has_grid» ≡ true → checkedEndRow p sp .number ≡ 0 → RowEnded p (checkedEndRow p sp .placer)
+pub row-ended : (sp : Vec2) (p : Placer) → p .«has_grid» ≡ true → checkedEndRow p sp .number ≡ 0 → RowEnded sp p (checkedEndRow p sp .placer)
 unfolding checkedEndRow least endRowFault
 row-ended sp p g h =
     let a = changed-accepted _ p (endRow p sp) h in
@@ -106,44 +116,45 @@ row-ended sp p g h =
     let c = lesser-none (pairFault (sp .x) (sp .y)) _ (b .1) in
     let j = room (p .«has_grid») 128 (p .grid .row) g (c .1) in
     let e = end-past sp p g j in
-    record { row = j; still = ap (λ (q : Placer). q .«has_grid») (a .2) ∙ e .0; grid = ap (λ (q : Placer). q .grid) (a .2) ∙ e .1 }
+    record { row = j; still = ap (λ (q : Placer). q .«has_grid») (a .2) ∙ e .0; grid = ap (λ (q : Placer). q .grid) (a .2) ∙ e .1; layout = ap (λ (q : Placer). q .layout) (a .2) ∙ e .2; fault = a .1; is = a .2 }
 
 -- ---- the other records
 pub record LeftAlone (p q : Placer) : Type 0 where
   pub still : q .«has_grid» ≡ p .«has_grid»
+  pub layout : q .layout ≡ p .layout
   pub grid : q .grid ≡ p .grid
 
 alone-if : (p q : Placer) (b : Bool) → LeftAlone p q → LeftAlone p (cond b p q)
-alone-if p q true a = record { still = refl; grid = refl }
+alone-if p q true a = record { still = refl; layout = refl; grid = refl }
 alone-if p q false a = a
 
 by-call : (n : ℕ) (p q : Placer) → LeftAlone p q → changed n p q .number ≡ 0 → LeftAlone p (changed n p q .placer)
-by-call n p q a h = let e = changed-accepted n p q h .2 in record { still = ap (λ (x : Placer). x .«has_grid») e ∙ a .still; grid = ap (λ (x : Placer). x .grid) e ∙ a .grid }
+by-call n p q a h = let e = changed-accepted n p q h .2 in record { still = ap (λ (x : Placer). x .«has_grid») e ∙ a .still; layout = ap (λ (x : Placer). x .layout) e ∙ a .layout; grid = ap (λ (x : Placer). x .grid) e ∙ a .grid }
 
 module _ (k : ℕ) (p : Placer) where
   advance-alone : (a : Float) → LeftAlone p (advanceCursor p a)
   unfolding advanceCursor
-  advance-alone a = record { still = refl; grid = refl }
+  advance-alone a = record { still = refl; layout = refl; grid = refl }
 
   row-height-alone : (h : Float) → LeftAlone p (setRowHeight p h)
   unfolding setRowHeight
-  row-height-alone h = record { still = refl; grid = refl }
+  row-height-alone h = record { still = refl; layout = refl; grid = refl }
 
   max-width-alone : (w : Float) → LeftAlone p (setMaxWidth k p w)
   unfolding setMaxWidth
-  max-width-alone w = record { still = refl; grid = refl }
+  max-width-alone w = record { still = refl; layout = refl; grid = refl }
 
   max-height-alone : (h : Float) → LeftAlone p (setMaxHeight k p h)
   unfolding setMaxHeight
-  max-height-alone h = record { still = refl; grid = refl }
+  max-height-alone h = record { still = refl; layout = refl; grid = refl }
 
   min-width-alone : (w : Float) → LeftAlone p (setMinWidth k p w)
   unfolding setMinWidth grownAcross expandToIncludeX
-  min-width-alone w = alone-if p _ (le w zeroF) (record { still = refl; grid = refl })
+  min-width-alone w = alone-if p _ (le w zeroF) (record { still = refl; layout = refl; grid = refl })
 
   min-height-alone : (h : Float) → LeftAlone p (setMinHeight k p h)
   unfolding setMinHeight grownDown expandToIncludeY
-  min-height-alone h = alone-if p _ (le h zeroF) (record { still = refl; grid = refl })
+  min-height-alone h = alone-if p _ (le h zeroF) (record { still = refl; layout = refl; grid = refl })
 
 -- a record that is neither a W nor an E
 pub data Other : Step → Type 0 where

@@ -6,3 +6,6 @@ pub mod ColumnRuns
 pub mod Passes
 pub mod Widest
 pub mod ColumnLaw
+pub mod GridTops
+pub mod Lists
+pub mod Listed

@@ -9,3 +9,5 @@ pub mod ColumnLaw
 pub mod GridTops
 pub mod Lists
 pub mod Listed
+pub mod RowHeights
+pub mod Settling

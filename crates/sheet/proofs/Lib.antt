@@ -11,3 +11,4 @@ pub mod Lists
 pub mod Listed
 pub mod RowHeights
 pub mod Settling
+pub mod FurtherPasses

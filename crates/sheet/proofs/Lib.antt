@@ -1,11 +1,18 @@
--- The laws of a sheet's pass. Layers above cite them as Rattle.sheet.proofs.NAME.
+-- The laws of a sheet's pass, in the order of the argument. Layers above cite them as Rattle.sheet.proofs.NAME.
+-- Accepted runs and passes, taken apart.
 pub mod Runs
+pub mod Passes
+-- Strips.
+pub mod StripPlaces
+pub mod StripSteps
+pub mod Strips
+-- What a record does to a grid; the column law.
 pub mod GridMoves
 pub mod ColumnWidths
 pub mod ColumnRuns
-pub mod Passes
 pub mod Widest
 pub mod ColumnLaw
+-- A grid's memory settles; all further passes.
 pub mod GridTops
 pub mod Lists
 pub mod Listed

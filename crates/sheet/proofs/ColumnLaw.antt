@@ -103,7 +103,7 @@ module _ (k : ℕ) (l : k ≤ 7) (s : Sheet) (known : Bool) (m : Memory) (sizing
       let r : Raised smallest c (inColumn c 0 (s .steps)) begins q
       = subst (λ (j : ℕ). Raised smallest c (inColumn c j (s .steps)) begins q) start-column (column-run smallest c k l (s .heading .spacing) (w .steps) 3 begins starts (p .run)) in
       let memory : pass k s known m sizing .memory ≡ q .grid .«curr_state» = p .memory ∙ saved-is q (r .inside .grid) in
-      let positive = edge-not-negative k l smallest (w .smallest .x) (not-negative (s .options .«min_cell_size») (ap (λ (v : Vec2). sizeFault v) (sym start-least) ∙ least-cell (begins .grid) (placer-grid begins refl (p .gridded))) .0) in
+      let positive = edge-not-negative k l smallest (w .smallest .x) (not-negative (s .options .«min_cell_size») (ap (λ (v : Vec2). sizeFault v) (sym start-least) ∙ least-cell (begins .grid) (placer-grid begins refl (p .fault))) .0) in
       (rw memory (r .counted some),
         ap (λ (x : Memory). colWidth x c zeroF) memory ∙ r .width ∙ ap (λ (x : Float). raisedBy smallest x (inColumn c 0 (s .steps))) (start-width c)
         ∙ raised-to-widest k l smallest (w .smallest .x) (inColumn c 0 (s .steps)) (column-widths k l c (w .steps) 0) positive some)

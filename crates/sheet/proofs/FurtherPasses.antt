@@ -64,9 +64,9 @@ module _ (k : ℕ) (l : k ≤ 6) (s : Sheet) (w : WholeSheet k s) where
     begins = gridStart k s known m sizing
 
     -- the grid starts in whole steps
-    begins-on-steps : OnSteps k begins
+    pub begins-on-steps : OnSteps k begins
     begins-on-steps =
-        let f = grid-fits begins refl (p .gridded) in
+        let f = grid-fits begins refl (p .fault) in
         let n = new-whole k l (s .heading .«max_rect») (s .heading .layout) (w .rect) (p .begin) in
         record {
           grid = refl;
@@ -82,7 +82,7 @@ module _ (k : ℕ) (l : k ≤ 6) (s : Sheet) (w : WholeSheet k s) where
     -- the least cell, counted
     least-counted : (s .options .«min_cell_size» .x ≡ len k mw) × (mw ≤ most k) × (s .options .«min_cell_size» .y ≡ len k mh) × (mh ≤ most k)
     least-counted =
-        let z = not-negative (s .options .«min_cell_size») (ap (λ (v : Vec2). sizeFault v) (sym least-is) ∙ least-cell (begins .grid) (placer-grid begins refl (p .gridded))) in
+        let z = not-negative (s .options .«min_cell_size») (ap (λ (v : Vec2). sizeFault v) (sym least-is) ∙ least-cell (begins .grid) (placer-grid begins refl (p .fault))) in
         let a = counted k l (s .options .«min_cell_size» .x) (w .smallest .x) (edge-not-negative k (omega arith) (s .options .«min_cell_size» .x) (w .smallest .x) (z .0)) in
         let b = counted k l (s .options .«min_cell_size» .y) (w .smallest .y) (edge-not-negative k (omega arith) (s .options .«min_cell_size» .y) (w .smallest .y) (z .1)) in
         (a .0, a .1, b .0, b .1)

@@ -19,3 +19,6 @@ pub mod Listed
 pub mod RowHeights
 pub mod Settling
 pub mod FurtherPasses
+-- Whole ticks.
+pub mod WholeTops
+pub mod WholeEdges

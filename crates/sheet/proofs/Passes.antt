@@ -87,7 +87,8 @@ module _ (k : ℕ) (s : Sheet) (known : Bool) (m : Memory) (sizing : Bool) where
   pub record GridPass : Type 0 where
     pub rect : rectFault (s .heading .«max_rect») ≡ 0
     pub begin : placerFault start ≡ 0
-    pub gridded : placerFault gridStart ≡ 0
+    pub is : gridded (s .heading) (s .options) known m sizing (headed k (s .heading) .placer) .placer ≡ gridStart
+    pub fault : placerFault gridStart ≡ 0
     pub run : runFrom k (s .heading .spacing) 3 gridStart (s .steps) .number ≡ 0
     pub cells : pass k s known m sizing .cells ≡ runFrom k (s .heading .spacing) 3 gridStart (s .steps) .cells
     pub plate : pass k s known m sizing .plate ≡ plateOf (runFrom k (s .heading .spacing) 3 gridStart (s .steps) .placer)
@@ -103,7 +104,8 @@ module _ (k : ℕ) (s : Sheet) (known : Bool) (m : Memory) (sizing : Bool) where
 
   -- the records from G on, after a placer p
   record FromGrid (p : Placer) (r : Ran) : Type 0 where
-    pub gridded : placerFault (setGrid p (newOne (s .heading) (s .options) known m sizing p)) ≡ 0
+    pub is : gridded (s .heading) (s .options) known m sizing p .placer ≡ setGrid p (newOne (s .heading) (s .options) known m sizing p)
+    pub fault : placerFault (setGrid p (newOne (s .heading) (s .options) known m sizing p)) ≡ 0
     pub run : last (setGrid p (newOne (s .heading) (s .options) known m sizing p)) .number ≡ 0
     pub cells : r .cells ≡ last (setGrid p (newOne (s .heading) (s .options) known m sizing p)) .cells
     pub placer : r .placer ≡ last (setGrid p (newOne (s .heading) (s .options) known m sizing p)) .placer
@@ -114,7 +116,8 @@ module _ (k : ℕ) (s : Sheet) (known : Bool) (m : Memory) (sizing : Bool) where
       let a = going 2 (called (gridded (s .heading) (s .options) known m sizing p)) (last (gridded (s .heading) (s .options) known m sizing p .placer)) (ap (λ (r : Ran). r .number) (sym e) ∙ h) in
       let b = gridded-is (s .heading) (s .options) known m sizing p (a .this) in
       record {
-        gridded = b .1;
+        is = b .0;
+        fault = b .1;
         run = ap (λ (q : Placer). last q .number) (sym (b .0)) ∙ a .rest;
         cells = ap (λ (r : Ran). r .cells) e ∙ a .cells ∙ ap (λ (q : Placer). last q .cells) (b .0);
         placer = ap (λ (r : Ran). r .placer) e ∙ a .placer ∙ ap (λ (q : Placer). last q .placer) (b .0) }
@@ -123,6 +126,7 @@ module _ (k : ℕ) (s : Sheet) (known : Bool) (m : Memory) (sizing : Bool) where
   record FromHead (r : Ran) : Type 0 where
     pub rect : rectFault (s .heading .«max_rect») ≡ 0
     pub begin : placerFault start ≡ 0
+    pub placed : headed k (s .heading) .placer ≡ start
     pub run : ranWith k s known m sizing start .number ≡ 0
     pub cells : r .cells ≡ ranWith k s known m sizing start .cells
     pub placer : r .placer ≡ ranWith k s known m sizing start .placer
@@ -138,6 +142,7 @@ module _ (k : ℕ) (s : Sheet) (known : Bool) (m : Memory) (sizing : Bool) where
       record {
         rect = b .0;
         begin = b .1;
+        placed = b .2;
         run = ap (λ (q : Placer). ranWith k s known m sizing q .number) (sym (b .2)) ∙ a .rest;
         cells = a .cells ∙ ap (λ (q : Placer). ranWith k s known m sizing q .cells) (b .2);
         placer = a .placer ∙ ap (λ (q : Placer). ranWith k s known m sizing q .placer) (b .2) }
@@ -159,7 +164,8 @@ module _ (k : ℕ) (s : Sheet) (known : Bool) (m : Memory) (sizing : Bool) where
       record {
         rect = b .rect;
         begin = b .begin;
-        gridded = c .gridded;
+        is = ap (λ (q : Placer). gridded (s .heading) (s .options) known m sizing q .placer) (b .placed) ∙ c .is;
+        fault = c .fault;
         run = c .run;
         cells = a .cells ∙ b .cells ∙ c .cells;
         plate = a .plate ∙ ap (λ (x : Placer). plateOf x) q;

@@ -2,3 +2,4 @@
 pub mod Pass
 pub mod Sheets
 pub mod Columns
+pub mod Tops

@@ -132,27 +132,27 @@ by-call : (n : ℕ) (p q : Placer) → LeftAlone p q → changed n p q .number �
 by-call n p q a h = let e = changed-accepted n p q h .2 in record { still = ap (λ (x : Placer). x .«has_grid») e ∙ a .still; layout = ap (λ (x : Placer). x .layout) e ∙ a .layout; grid = ap (λ (x : Placer). x .grid) e ∙ a .grid }
 
 module _ (k : ℕ) (p : Placer) where
-  advance-alone : (a : Float) → LeftAlone p (advanceCursor p a)
+  pub advance-alone : (a : Float) → LeftAlone p (advanceCursor p a)
   unfolding advanceCursor
   advance-alone a = record { still = refl; layout = refl; grid = refl }
 
-  row-height-alone : (h : Float) → LeftAlone p (setRowHeight p h)
+  pub row-height-alone : (h : Float) → LeftAlone p (setRowHeight p h)
   unfolding setRowHeight
   row-height-alone h = record { still = refl; layout = refl; grid = refl }
 
-  max-width-alone : (w : Float) → LeftAlone p (setMaxWidth k p w)
+  pub max-width-alone : (w : Float) → LeftAlone p (setMaxWidth k p w)
   unfolding setMaxWidth
   max-width-alone w = record { still = refl; layout = refl; grid = refl }
 
-  max-height-alone : (h : Float) → LeftAlone p (setMaxHeight k p h)
+  pub max-height-alone : (h : Float) → LeftAlone p (setMaxHeight k p h)
   unfolding setMaxHeight
   max-height-alone h = record { still = refl; layout = refl; grid = refl }
 
-  min-width-alone : (w : Float) → LeftAlone p (setMinWidth k p w)
+  pub min-width-alone : (w : Float) → LeftAlone p (setMinWidth k p w)
   unfolding setMinWidth grownAcross expandToIncludeX
   min-width-alone w = alone-if p _ (le w zeroF) (record { still = refl; layout = refl; grid = refl })
 
-  min-height-alone : (h : Float) → LeftAlone p (setMinHeight k p h)
+  pub min-height-alone : (h : Float) → LeftAlone p (setMinHeight k p h)
   unfolding setMinHeight grownDown expandToIncludeY
   min-height-alone h = alone-if p _ (le h zeroF) (record { still = refl; layout = refl; grid = refl })
 

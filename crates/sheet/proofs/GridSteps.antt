@@ -35,7 +35,7 @@ use Rattle.sheet.proofs.GridMoves.{grid-cell, frame-is, widget-is, row-
 use Rattle.sheet.proofs.GridSpots.{edgesOf, spotAt, spotOf, givenOf, cell-is, aligned-is, advanced-is, advanced-given, ended-is, ended-given}
 
 -- ---- a grid's directions leave the cursor's left and top closed
-grid-direction : (p : Placer) → p .«has_grid» ≡ true → placerFault p ≡ 0 → fitsGrid (p .layout .«main_dir») ≡ true
+pub grid-direction : (p : Placer) → p .«has_grid» ≡ true → placerFault p ≡ 0 → fitsGrid (p .layout .«main_dir») ≡ true
 unfolding placerFault gridPart directionFault least
 grid-direction p g h =
     let a = rw g at (lesser-none (regionFault (p .layout .«main_dir») (p .region)) _ h .1) in

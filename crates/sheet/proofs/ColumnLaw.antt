@@ -1,12 +1,11 @@
 -- The column law: in every accepted pass of a grid sheet, with any records, any given memory, sizing or not, a column that holds cells is
 -- counted in the memory given back, and exactly as wide there as the larger of the minimum and its widest control. Assumes nothing.
-use Prim.Native.Nat.{ℕ, zero, suc, _+_, _≤_, _<_}
+use Prim.Native.Nat.{ℕ, _≤_, _<_}
 use mathlib.Core.Path.{_≡_, refl, ap, sym, _∙_, subst}
-use mathlib.Core.Bool.{Bool, true, false, cond, _||_}
-use mathlib.Core.List.{List, [], _∷_}
+use mathlib.Core.Bool.{Bool, true, false, _||_}
+use mathlib.Core.List.{[]}
 use native.Mathlib.Omega.{arith}
-use lib.Dec.{T, ltb}
-use lib.IntN.{ℤ, pos}
+use lib.IntN.{pos}
 use lib.Signed.{ltZ}
 use lib.ListN.{length}
 use lib.Ieee.{Float, lt}
@@ -14,28 +13,26 @@ use Rattle.emath.specs.Rectangles.{zeroF}
 use Rattle.emath.specs.Refusals.{when, least, sizeFault, pairFault}
 use Rattle.emath.specs.Domain.{negative}
 use Rattle.emath.specs.Steps.{val, Edge}
-use Rattle.emath.proofs.Whole.{more, less, Within, _≤ᶻ_, nltZ→}
+use Rattle.emath.proofs.Whole.{_≤ᶻ_, nltZ→}
 use Rattle.emath.proofs.Values.{val-lt}
 use Rattle.emath.proofs.Sums.{edge-small}
 use Rattle.emath.proofs.Refusals.{lesser-none}
 use Rattle.emath.proofs.Tests.{is-no}
 use Rattle.emath.specs.declared.Vec2.{Vec2}
 use Rattle.grid.specs.Memories.{colWidth, emptyMemory}
-use Rattle.grid.specs.Entries.{entry}
 use Rattle.grid.specs.Grids.{newGrid, save}
 use Rattle.grid.specs.Refusals.{gridFault}
 use Rattle.grid.proofs.Remembered.{entry-none}
-use Rattle.grid.proofs.Advances.{Sound}
 use Rattle.grid.specs.declared.Memory.{Memory}
 use Rattle.grid.specs.declared.GridLayout.{GridLayout}
-use Rattle.placer.specs.Rules.{saveGrid, setGrid}
+use Rattle.placer.specs.Rules.{saveGrid}
 use Rattle.placer.proofs.Accepted.{placer-grid}
 use Rattle.placer.proofs.Carried.{new-sound}
 use Rattle.placer.specs.declared.Placer.{Placer}
 use Rattle.sheet.specs.Pass.{Sheet, runFrom, pass}
 use Rattle.sheet.specs.Sheets.{WholeSheet}
 use Rattle.sheet.specs.Columns.{inColumn, widest}
-use Rattle.sheet.proofs.Passes.{GridPass, grid-pass, newOne, start, gridStart}
+use Rattle.sheet.proofs.Passes.{grid-pass, start, gridStart}
 use Rattle.sheet.proofs.ColumnRuns.{InGrid, Raised, raisedBy, column-run}
 use Rattle.sheet.proofs.Widest.{column-widths, raised-to-widest, zero-val}
 
@@ -103,7 +100,8 @@ module _ (k : ℕ) (l : k ≤ 7) (s : Sheet) (known : Bool) (m : Memory) (sizing
       let r : Raised smallest c (inColumn c 0 (s .steps)) begins q
       = subst (λ (j : ℕ). Raised smallest c (inColumn c j (s .steps)) begins q) start-column (column-run smallest c k l (s .heading .spacing) (w .steps) 3 begins starts (p .run)) in
       let memory : pass k s known m sizing .memory ≡ q .grid .«curr_state» = p .memory ∙ saved-is q (r .inside .grid) in
-      let positive = edge-not-negative k l smallest (w .smallest .x) (not-negative (s .options .«min_cell_size») (ap (λ (v : Vec2). sizeFault v) (sym start-least) ∙ least-cell (begins .grid) (placer-grid begins refl (p .fault))) .0) in
-      (rw memory (r .counted some),
+      let positive = edge-not-negative k l smallest (w .smallest .x) (not-negative (s .options .«min_cell_size») (ap (λ (v : Vec2). sizeFault v) (sym start-least) ∙ least-cell (begins .grid) (placer-grid begins refl (p .fault))) .0) in (
+        rw memory (r .counted some),
         ap (λ (x : Memory). colWidth x c zeroF) memory ∙ r .width ∙ ap (λ (x : Float). raisedBy smallest x (inColumn c 0 (s .steps))) (start-width c)
-        ∙ raised-to-widest k l smallest (w .smallest .x) (inColumn c 0 (s .steps)) (column-widths k l c (w .steps) 0) positive some)
+            ∙ raised-to-widest k l smallest (w .smallest .x) (inColumn c 0 (s .steps)) (column-widths k l c (w .steps) 0) positive some,
+      )

@@ -1,11 +1,11 @@
 -- The column law of a run: after any accepted records of a grid, in whatever state and with whatever memory it was, a column's width is what
 -- it was, raised by the controls of that column and nothing else. Assumes nothing.
-use Prim.Native.Nat.{ℕ, zero, suc, _+_, _≤_, _<_}
-use mathlib.Core.Path.{_≡_, refl, ap, sym, _∙_}
-use mathlib.Core.Bool.{Bool, true, false, cond, _&&_}
+use Prim.Native.Nat.{ℕ, _+_, _≤_, _<_}
+use mathlib.Core.Path.{_≡_, refl, ap, _∙_}
+use mathlib.Core.Bool.{Bool, true, false, cond}
 use mathlib.Core.List.{List, [], _∷_}
 use native.Mathlib.Omega.{arith}
-use lib.Dec.{eqb, ltb}
+use lib.Dec.{eqb}
 use borrow.Author.Tests.{eqb-true}
 use lib.ListN.{length}
 use lib.Ieee.{Float}
@@ -25,11 +25,11 @@ use Rattle.placer.specs.Operations.{checkedEndRow}
 use Rattle.placer.specs.declared.Placer.{Placer}
 use Rattle.records.specs.declared.Step.{Step}
 use Rattle.records.specs.declared.Step.the-variants.{Widget, RowEnd}
-use Rattle.sheet.specs.Pass.{Cell, stepped, runFrom, cellOf, widgetStep}
+use Rattle.sheet.specs.Pass.{stepped, runFrom, cellOf, widgetStep}
 use Rattle.sheet.specs.Sheets.{WholeSteps, none, control, space, rowHeight, maxWidth, maxHeight, minWidth, minHeight, rowEnd}
 use Rattle.sheet.specs.Columns.{inColumn}
-use Rattle.sheet.proofs.Runs.{Going, run-goes}
-use Rattle.sheet.proofs.GridMoves.{GridCell, grid-cell, control-width, RowEnded, row-ended, LeftAlone, Other, left-alone}
+use Rattle.sheet.proofs.Runs.{run-goes}
+use Rattle.sheet.proofs.GridMoves.{grid-cell, control-width, row-ended, Other, left-alone}
 use Rattle.sheet.proofs.ColumnWidths.{noted-width, noted-cols, count-grows, count-reaches}
 
 -- a width raised by controls, each to its own width or the minimum
@@ -87,7 +87,8 @@ module _ (smallest : Float) (c : ℕ) where
     inside = r .inside;
     width = one-more smallest w (colWidth (p .grid .«curr_state») c zeroF) _ _ (eqb (p .grid .col) c) ws (a .width) (r .width);
     more = omega (arith, a .more, r .more);
-    counted = λ h. seen (p .grid .col) c (p₁ .grid .«curr_state» .cols) (q .grid .«curr_state» .cols) w (eqb (p .grid .col) c) ws refl (a .reaches) (r .more) (r .counted) h }
+    counted = λ h. seen (p .grid .col) c (p₁ .grid .«curr_state» .cols) (q .grid .«curr_state» .cols) w (eqb (p .grid .col) c) ws refl (a .reaches) (r .more) (r .counted) h;
+  }
 
   -- where a record leaves this pass's memory alone
   join-same : (ws : List Float) (p p₁ q : Placer) → p₁ .grid .«curr_state» ≡ p .grid .«curr_state» → Raised smallest c ws p₁ q → Raised smallest c ws p q
@@ -95,7 +96,8 @@ module _ (smallest : Float) (c : ℕ) where
     inside = r .inside;
     width = r .width ∙ ap (λ (m : Memory). raisedBy smallest (colWidth m c zeroF) ws) e;
     more = omega (arith, ap (λ (m : Memory). m .cols) e, r .more);
-    counted = r .counted }
+    counted = r .counted;
+  }
 
   moved-in : (g : GridLayout) (p q : Placer) → q .«has_grid» ≡ true → q .grid ≡ g → Sound (g .«curr_state») → g .«min_cell_size» ≡ p .grid .«min_cell_size» → InGrid smallest p → InGrid smallest q
   moved-in g p q t e s m i = record { grid = t; sound = rw e s; least = ap (λ (x : GridLayout). x .«min_cell_size» .x) e ∙ ap (λ (v : Vec2). v .x) m ∙ i .least }
@@ -126,7 +128,8 @@ module _ (smallest : Float) (c : ℕ) where
           col = ap (λ (x : GridLayout). x .col) (a .grid) ∙ d .1;
           width = noted-here p q v w i (ap (λ (x : GridLayout). x .«curr_state») (a .grid) ∙ d .0) (a .col) ew;
           more = omega (arith, cols, count-grows (p .grid .«curr_state» .cols) (p .grid .col + 1));
-          reaches = omega (arith, cols, count-reaches (p .grid .«curr_state» .cols) (p .grid .col + 1)) }
+          reaches = omega (arith, cols, count-reaches (p .grid .«curr_state» .cols) (p .grid .col + 1));
+        }
 
     -- an E: the next W has column 0
     row-done : stepped k sp p RowEnd .number ≡ 0

@@ -3,25 +3,22 @@
 use Prim.Native.Nat.{ℕ, zero, suc, _+_, _≤_, _<_}
 use mathlib.Core.Path.{_≡_, refl, ap, sym, _∙_}
 use mathlib.Core.Bool.{Bool, true, false, cond}
-use mathlib.Core.List.{List, [], _∷_}
+use mathlib.Core.List.{List}
 use native.Mathlib.Omega.{arith}
 use lib.Dec.{eqb, ltb}
 use borrow.Author.Tests.{ltb-true, ltb-false, eqb-true, eqb-false}
 use lib.ListN.{length, take, length-take}
 use lib.Ieee.{Float}
-use Rattle.emath.specs.Rectangles.{zeroF, maxF, width, height}
-use Rattle.emath.specs.Steps.{Edge}
+use Rattle.emath.specs.Rectangles.{zeroF, maxF, width}
 use Rattle.emath.proofs.Tests.{is-lt}
 use Rattle.emath.specs.declared.Rect.{Rect}
-use Rattle.emath.specs.declared.Vec2.{Vec2}
 use Rattle.grid.specs.Entries.{entry, raised}
 use Rattle.grid.specs.Memories.{colWidth, setMinColWidth, setMinRowHeight, raisedCount, widths}
-use Rattle.grid.specs.Grids.{noted, advanced, rowEnded}
+use Rattle.grid.specs.Grids.{noted}
 use Rattle.grid.proofs.Remembered.{entry-none, raised-same, raised-kept, raised-skipped, raised-none}
 use Rattle.grid.proofs.Advances.{Sound}
 use Rattle.grid.specs.declared.Memory.{Memory}
 use Rattle.grid.specs.declared.GridLayout.{GridLayout}
-use Rattle.placer.specs.declared.Placer.{Placer}
 
 -- ---- one entry more: an entry that is not counted is 0 here
 count-least : (n m j : ℕ) → n ≤ j → m ≤ j → raisedCount n m ≤ j

@@ -1,18 +1,17 @@
 -- All further passes: the second pass of an accepted grid sheet, of any records, gives back the memory that it was given, so every pass after
 -- it is the same. For steps of 1 to 1/64 point. Assumes nothing.
-use Prim.Native.Nat.{ℕ, zero, suc, _+_, _≤_, _<_}
+use Prim.Native.Nat.{ℕ, zero, suc, _≤_}
 use mathlib.Core.Path.{_≡_, refl, ap, sym, _∙_, subst}
-use mathlib.Core.Bool.{Bool, true, false, cond, not}
-use mathlib.Core.List.{List, [], _∷_, map}
+use mathlib.Core.Bool.{Bool, true, false}
+use mathlib.Core.List.{List, [], map}
 use native.Mathlib.Omega.{arith}
-use lib.Ieee.{Float}
 use Rattle.emath.specs.Steps.{most, Edge}
-use Rattle.emath.specs.Refusals.{when, lesser, least, sizeFault}
+use Rattle.emath.specs.Refusals.{least, sizeFault}
 use Rattle.emath.proofs.Refusals.{lesser-none, when-none}
 use Rattle.emath.specs.declared.Rect.{Rect}
 use Rattle.emath.specs.declared.Vec2.{Vec2}
 use Rattle.layout.specs.Refusals.{closed, regionFault}
-use Rattle.layout.specs.Steps.{WholeRect, WholeCursor}
+use Rattle.layout.specs.Steps.{WholeCursor}
 use Rattle.layout.specs.declared.Direction.{Direction}
 use Rattle.layout.specs.declared.Direction.the-variants.{LeftToRight, RightToLeft, TopDown, BottomUp}
 use Rattle.grid.specs.Memories.{emptyMemory, heights}
@@ -20,8 +19,6 @@ use Rattle.grid.specs.Grids.{knownMemory, newGrid}
 use Rattle.grid.specs.Refusals.{gridFault, fitsGrid, directionFault}
 use Rattle.grid.specs.declared.Memory.{Memory}
 use Rattle.placer.specs.Refusals.{placerFault, gridPart}
-use Rattle.placer.specs.Rules.{setGrid}
-use Rattle.placer.specs.Steps.{WholeDown, WholeTops, WholePlacer}
 use Rattle.placer.proofs.Accepted.{placer-grid}
 use Rattle.placer.proofs.WholeCalls.{new-whole}
 use Rattle.placer.proofs.Carried.{new-sound, new-down}
@@ -36,7 +33,7 @@ use Rattle.sheet.proofs.Passes.{GridPass, grid-pass, start, gridStart}
 use Rattle.sheet.proofs.GridTops.{OnSteps}
 use Rattle.sheet.proofs.ColumnLaw.{saved-is, not-negative, least-cell, edge-not-negative}
 use Rattle.sheet.proofs.Listed.{Listed, listed-empty, same-memory}
-use Rattle.sheet.proofs.Settling.{count, counted, modelSteps, At, Settles, settles}
+use Rattle.sheet.proofs.Settling.{count, counted, modelSteps, At, settles}
 
 -- a grid is on direction 0 or 2
 grid-fits : (p : Placer) → p .«has_grid» ≡ true → placerFault p ≡ 0 → fitsGrid (p .layout .«main_dir») ≡ true
@@ -73,7 +70,8 @@ module _ (k : ℕ) (l : k ≤ 6) (s : Sheet) (w : WholeSheet k s) where
           fits = f;
           sound = new-sound (start k s known m sizing .region) known m sizing (s .heading .spacing) (s .options .«min_cell_size») (s .options .«max_cell_size») (s .options .«num_columns») (s .options .«start_row»);
           down = new-down (start k s known m sizing .region) known m sizing (s .heading .spacing) (s .options .«min_cell_size») (s .options .«max_cell_size») (s .options .«num_columns») (s .options .«start_row») k (w .smallest .y) (w .spacing .y);
-          tops = record { inner = n .inner; outer = n .outer; top = cursor-top k (begins .layout .«main_dir») (begins .region .cursor) f (n .cursor) } }
+          tops = record { inner = n .inner; outer = n .outer; top = cursor-top k (begins .layout .«main_dir») (begins .region .cursor) f (n .cursor) };
+        }
 
     least-is : begins .grid .«min_cell_size» ≡ s .options .«min_cell_size»
     unfolding newGrid
@@ -100,7 +98,8 @@ module _ (k : ℕ) (l : k ≤ 6) (s : Sheet) (w : WholeSheet k s) where
         least-width = least-counted .0;
         least-height = least-counted .2;
         listed = listed-empty k;
-        given-are = are }
+        given-are = are;
+      }
 
       -- what the pass gives back
       pub gives-back : (rows : List ℕ) × Run mh given (s .options .«start_row») [] (modelSteps k (s .steps)) rows × Listed k (colsFrom mw 0 [] (modelSteps k (s .steps))) rows (pass k s known m sizing .memory)

@@ -116,8 +116,8 @@ module _ (k : ℕ) (l : k ≤ 6) (s : Sheet) (known : Bool) (m : Memory) (sizing
       let q = gridStart k s known m sizing in
       let a = region-from-max-rect-seeded k l (s .heading .layout) (s .heading .«max_rect») (placer-region (start k s known m sizing) (p .begin)) in
       record {
-        direction = grid-direction q refl (p .gridded);
-        smallest = least-cell (q .grid) (placer-grid q refl (p .gridded));
+        direction = grid-direction q refl (p .fault);
+        smallest = least-cell (q .grid) (placer-grid q refl (p .fault));
         point = a .point;
         left = a .whole .left;
         top = a .whole .top;

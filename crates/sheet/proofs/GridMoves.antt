@@ -1,33 +1,30 @@
 -- What an accepted record does to a grid: a W notes its control's width, exactly, and its rectangle's height, and goes a column on; an E
 -- goes to the next row; every other record leaves the grid alone. Assumes nothing.
-use Prim.Native.Nat.{ℕ, zero, suc, _+_, _≤_, _<_}
-use mathlib.Core.Path.{_≡_, refl, ap, sym, _∙_}
+use Prim.Native.Nat.{ℕ, _≤_, _<_}
+use mathlib.Core.Path.{_≡_, refl, ap, _∙_}
 use mathlib.Core.Bool.{Bool, true, false, cond, _&&_}
-use mathlib.Core.List.{[], _∷_}
 use native.Mathlib.Omega.{arith}
-use lib.Dec.{ltb, leb}
+use lib.Dec.{leb}
 use borrow.Author.Tests.{leb-false}
 use lib.Ieee.{Float, le}
-use Rattle.emath.specs.Rectangles.{zeroF, maxF, width, height}
-use Rattle.emath.specs.Refusals.{when, least, lengthFault, extentFault, pairFault}
+use Rattle.emath.specs.Rectangles.{zeroF, width}
+use Rattle.emath.specs.Refusals.{when, least, pairFault}
 use Rattle.emath.specs.Steps.{Edge}
 use Rattle.emath.proofs.Refusals.{lesser-none}
 use Rattle.emath.proofs.Tests.{is-lt}
 use Rattle.emath.specs.declared.Rect.{Rect}
 use Rattle.emath.specs.declared.Vec2.{Vec2}
 use Rattle.grid.specs.Grids as grid-rules
-use Rattle.grid.specs.Grids.{noted, advanced, rowEnded}
+use Rattle.grid.specs.Grids.{advanced, rowEnded}
 use Rattle.grid.proofs.Cells.{cell-width}
-use Rattle.grid.specs.declared.GridLayout.{GridLayout}
-use Rattle.placer.specs.Rules.{nextSpace, justifyAndAlign, advanceCursor, movedPast, advanceAfterRects, expandToIncludeRect, setCursor, endRow, setRowHeight, setMaxWidth, setMaxHeight, setMinWidth, setMinHeight, grownAcross, grownDown, expandToIncludeX, expandToIncludeY, nextWidgetSpaceIgnoreWrapJustify}
+use Rattle.placer.specs.Rules.{nextSpace, justifyAndAlign, advanceCursor, movedPast, advanceAfterRects, expandToIncludeRect, setCursor, endRow, setRowHeight, setMaxWidth, setMaxHeight, setMinWidth, setMinHeight, grownAcross, grownDown, expandToIncludeX, expandToIncludeY}
 use Rattle.placer.specs.Refusals.{placerFault, advanceFault, endRowFault, changed}
 use Rattle.placer.specs.Operations.{checkedAdvanceCursor, checkedEndRow, checkedSetRowHeight}
 use Rattle.placer.proofs.Accepted.{changed-accepted}
-use Rattle.placer.proofs.Kept.{set-row-height-keeps, set-max-width-keeps, set-max-height-keeps, set-min-width-keeps, set-min-height-keeps}
 use Rattle.placer.specs.declared.Placer.{Placer}
 use Rattle.records.specs.declared.Step.{Step}
-use Rattle.records.specs.declared.Step.the-variants.{Widget, Space, RowHeight, MaxWidth, MaxHeight, MinWidth, MinHeight, RowEnd}
-use Rattle.sheet.specs.Pass.{Cell, Stepped, stepped, cellOf, pastCell, widgetStep}
+use Rattle.records.specs.declared.Step.the-variants.{Space, RowHeight, MaxWidth, MaxHeight, MinWidth, MinHeight}
+use Rattle.sheet.specs.Pass.{Cell, stepped, cellOf, pastCell, widgetStep}
 use Rattle.sheet.proofs.Runs.{Placed, widget-placed}
 
 -- ---- W
@@ -86,7 +83,8 @@ grid-cell k sp p s g h =
       placed = a;
       still = ap (λ (q : Placer). q .«has_grid») (a .placer) ∙ still-grid sp p (cellOf k sp p s) g;
       layout = ap (λ (q : Placer). q .layout) (a .placer) ∙ same-layout sp p (cellOf k sp p s) g;
-      grid = ap (λ (q : Placer). q .grid) (a .placer) ∙ grid-past sp p (cellOf k sp p s) g (r .0) (r .1) }
+      grid = ap (λ (q : Placer). q .grid) (a .placer) ∙ grid-past sp p (cellOf k sp p s) g (r .0) (r .1);
+    }
 
 -- the widget is exactly as wide as the control
 pub control-width : (k : ℕ) → k ≤ 7 → (sp : Vec2) (p : Placer) (s : Vec2) → p .«has_grid» ≡ true → Edge k (s .x) → GridCell k sp p s → width (cellOf k sp p s .widget) ≡ s .x

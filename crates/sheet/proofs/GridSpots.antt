@@ -1,20 +1,17 @@
 -- The engine's view of a grid: its spot and what it is given, read off a placer; and that the grid's cell, its widget, its advance and its
 -- end of row are the engine's. Assumes nothing.
-use Prim.Native.Nat.{ℕ, suc, _+_, _≤_, _<_, max}
+use Prim.Native.Nat.{ℕ, suc, _+_, _<_}
 use mathlib.Core.Path.{_≡_, refl}
-use mathlib.Core.Bool.{Bool, true, false, cond}
-use mathlib.Core.List.{List}
+use mathlib.Core.Bool.{false}
 use native.Mathlib.Omega.{arith}
-use lib.Dec.{ltb}
-use borrow.Author.Tests.{ltb-true, ltb-false}
-use lib.ListN.{length, take, getD}
-use lib.Ieee.{Float, nan}
+use lib.ListN.{getD}
+use lib.Ieee.{Float}
+use Rattle.sheet.proofs.Lists.{entry-get, list-raised}
 use Rattle.emath.specs.Rectangles.{zeroF, maxF, width, height, isInfinite, union, centred, alignedTo, alignOn, alignWithin, roundRect}
 use Rattle.emath.proofs.Tests.{is-lt}
 use Rattle.emath.specs.declared.Rect.{Rect}
 use Rattle.emath.specs.declared.Vec2.{Vec2}
-use Rattle.grid.specs.Entries.{entry, cleared, raised}
-use Rattle.grid.specs.Memories.{widths, heights, raisedCount, setMinColWidth, setMinRowHeight, colWidth, rowHeight}
+use Rattle.grid.specs.Memories.{widths, heights, setMinColWidth, setMinRowHeight, colWidth, rowHeight}
 use Rattle.grid.specs.Grids as grid-rules
 use Rattle.grid.specs.Grids.{prevColWidth, prevRowHeight, nextWidth, alignSizeWithinRect, noted, advanced, rowEnded}
 use Rattle.grid.proofs.Advances.{Sound}
@@ -22,7 +19,6 @@ use Rattle.grid.specs.declared.Memory.{Memory}
 use Rattle.grid.specs.declared.GridLayout.{GridLayout}
 use Rattle.placer.specs.declared.Placer.{Placer}
 use Rattle.model.proofs.Engine.{Edges, Spot, Given, raise, united, widget, nextCell, advance, endRow}
-use Rattle.model.proofs.Arrays.{entry-is, array-raised}
 use Rattle.model.proofs.Floats.{ops}
 
 -- ---- the view
@@ -52,35 +48,22 @@ next n = omega arith
 
 -- ---- memories
 width-is : (m : Memory) (i : ℕ) (other : Float) → colWidth m i other ≡ getD (widths m) i other
-unfolding colWidth entry
-width-is m i other = entry-is (widths m) i nan other
+unfolding colWidth
+width-is m i other = entry-get (widths m) i other
 
 height-is : (m : Memory) (i : ℕ) (other : Float) → rowHeight m i other ≡ getD (heights m) i other
-unfolding rowHeight entry
-height-is m i other = entry-is (heights m) i nan other
-
-count-is : (n i : ℕ) → raisedCount n (i + 1) ≡ max n (suc i)
-unfolding raisedCount
-count-is n i = go (ltb n (i + 1)) refl
-  where
-    go : (b : Bool) → ltb n (i + 1) ≡ b → cond b (i + 1) n ≡ max n (suc i)
-    go true e = omega (arith, ltb-true n (i + 1) e)
-    go false e = omega (arith, ltb-false n (i + 1) e)
-
-list-raised : (k : ℕ) (xs : List Float) (n i : ℕ) (w : Float) → i < length xs → n ≤ length xs → take (raisedCount n (i + 1)) (raised xs n i w) ≡ raise (ops k) (take n xs) i w
-unfolding raised entry cleared
-list-raised k xs n i w h l =
-    rw (count-is n i, entry-is (take n xs) i nan zeroF) (array-raised (ops k) cleared (λ xs a. refl) (λ xs a n. refl) xs n i w h l)
+unfolding rowHeight
+height-is m i other = entry-get (heights m) i other
 
 -- after a cell both lists are the engine's
 module _ (k : ℕ) (g : GridLayout) (v : Rect) (s : Sound (g .«curr_state»)) (i : g .col < 32) (j : g .row < 128) where
   widths-noted : widths (noted g v) ≡ raise (ops k) (widths (g .«curr_state»)) (g .col) (maxF (width v) (g .«min_cell_size» .x))
   unfolding noted setMinColWidth setMinRowHeight
-  widths-noted = rw (is-lt (g .row) 128 j, is-lt (g .col) 32 i) (list-raised k (g .«curr_state» .«col_widths») (g .«curr_state» .cols) (g .col) _ (omega (arith, s .cols-room)) (omega (arith, s .cols-room, s .cols-few)))
+  widths-noted = rw (is-lt (g .row) 128 j, is-lt (g .col) 32 i) (list-raised k (g .«curr_state» .«col_widths») (g .«curr_state» .cols) (g .col) _ (omega (arith, s .cols-room, s .cols-few)) (omega (arith, s .cols-room)))
 
   heights-noted : heights (noted g v) ≡ raise (ops k) (heights (g .«curr_state»)) (g .row) (maxF (height v) (g .«min_cell_size» .y))
   unfolding noted setMinColWidth setMinRowHeight
-  heights-noted = rw (is-lt (g .row) 128 j, is-lt (g .col) 32 i) (list-raised k (g .«curr_state» .«row_heights») (g .«curr_state» .rows) (g .row) _ (omega (arith, s .rows-room)) (omega (arith, s .rows-room, s .rows-few)))
+  heights-noted = rw (is-lt (g .row) 128 j, is-lt (g .col) 32 i) (list-raised k (g .«curr_state» .«row_heights») (g .«curr_state» .rows) (g .row) _ (omega (arith, s .rows-room, s .rows-few)) (omega (arith, s .rows-room)))
 
 -- ---- next_cell, align_size_within_rect, advance, end_row
 pub aligned-is : (k : ℕ) (s : Vec2) (f : Rect) → isInfinite (s .x) ≡ false → isInfinite (s .y) ≡ false → edgesOf (alignSizeWithinRect k s f) ≡ widget (ops k) (edgesOf f) (s .x) (s .y)

@@ -25,11 +25,11 @@ use Rattle.grid.specs.declared.GridLayout.{GridLayout}
 use Rattle.placer.specs.Rules.{advanceAfterRects, movedPast, expandToIncludeRect, setCursor, endRow}
 use Rattle.placer.specs.Refusals.{placerFault, gridPart}
 use Rattle.placer.specs.Operations.{checkedEndRow}
-use Rattle.placer.proofs.Accepted.{placer-region, changed-accepted}
-use Rattle.placer.proofs.Carried.{advance-sound}
+use Rattle.placer.proofs.Accepted.{placer-region}
 use Rattle.placer.specs.declared.Placer.{Placer}
 use Rattle.model.proofs.Engine as engine
 use Rattle.model.proofs.Floats.{ops}
+use Rattle.sheet.proofs.ColumnRuns.{advanced-sound}
 use Rattle.sheet.specs.Pass.{Cell, cellOf, pastCell, widgetStep}
 use Rattle.sheet.proofs.GridMoves.{grid-cell, frame-is, widget-is, row-ended}
 use Rattle.sheet.proofs.GridSpots.{edgesOf, spotAt, spotOf, givenOf, cell-is, aligned-is, advanced-is, advanced-given, ended-is, ended-given}
@@ -56,10 +56,6 @@ cursor-within p g h = corner-within (p .layout .«main_dir») (p .region .cursor
 pub record InGrid (p : Placer) : Type 0 where
   pub grid : p .«has_grid» ≡ true
   pub sound : Sound (p .grid .«curr_state»)
-
-advanced-sound : (g : GridLayout) (c v : Rect) → g .col < 32 → g .row < 128 → Sound (g .«curr_state») → Sound (advanced g c v .grid .«curr_state»)
-unfolding grid-rules.advance
-advanced-sound g c v i j s = rw (is-lt (g .col) 32 i, is-lt (g .row) 128 j) at (advance-sound g c v s)
 
 past-spot : (sp : Vec2) (p : Placer) (c : Cell) → p .«has_grid» ≡ true → p .grid .col < 32 → p .grid .row < 128
     → spotOf (pastCell sp p c) ≡ spotAt (advanced (p .grid) (p .region .cursor) (c .widget) .grid) (advanced (p .grid) (p .region .cursor) (c .widget) .cursor) (union (p .region .«min_rect») (c .frame))
@@ -102,10 +98,6 @@ end-spot : (sp : Vec2) (p : Placer) → p .«has_grid» ≡ true → p .grid .ro
 unfolding endRow setCursor grid-rules.endRow
 end-spot sp p g j = rw (g, is-lt (p .grid .row) 128 j)
 
-end-accepted : (sp : Vec2) (p : Placer) → checkedEndRow p sp .number ≡ 0 → (placerFault (endRow p sp) ≡ 0) × (checkedEndRow p sp .placer ≡ endRow p sp)
-unfolding checkedEndRow
-end-accepted sp p h = let a = changed-accepted _ p (endRow p sp) h in (a .1, a .2)
-
 ended-sound : (g : GridLayout) (c : Rect) → Sound (g .«curr_state») → Sound (rowEnded g c .grid .«curr_state»)
 unfolding rowEnded
 ended-sound g c s = s
@@ -121,10 +113,9 @@ row-move k sp p i h =
     let g = p .grid in
     let r = p .region in
     let a = row-ended sp p (i .grid) h in
-    let b = end-accepted sp p h in
     record {
-      after = ap spotOf (b .1) ∙ end-spot sp p (i .grid) (a .row) ∙ ended-is k g (r .cursor) (r .«min_rect»);
+      after = ap spotOf (a .is) ∙ end-spot sp p (i .grid) (a .row) ∙ ended-is k g (r .cursor) (r .«min_rect»);
       given = ap givenOf (a .grid) ∙ ended-given g (r .cursor);
-      top = cursor-within (checkedEndRow p sp .placer) (a .still) (ap placerFault (b .1) ∙ b .0) .1;
+      top = cursor-within (checkedEndRow p sp .placer) (a .still) (ap placerFault (a .is) ∙ a .fault) .1;
       inside = record { grid = a .still; sound = rw (a .grid) (ended-sound g (r .cursor) (i .sound)) };
     }

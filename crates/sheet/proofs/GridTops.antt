@@ -1,25 +1,20 @@
 -- Whatever memory a grid was given, through every accepted record min_rect, max_rect and the cursor's top stay whole, and so do this pass's
 -- heights. For steps of 1 to 1/64 point. Assumes nothing.
-use Prim.Native.Nat.{ℕ, _+_, _≤_, _<_}
-use mathlib.Core.Path.{_≡_, refl, ap, sym, _∙_, subst}
-use mathlib.Core.Bool.{Bool, true, false}
-use mathlib.Core.List.{[], _∷_}
+use Prim.Native.Nat.{ℕ, _≤_}
+use mathlib.Core.Path.{_≡_, ap, sym, _∙_, subst}
+use mathlib.Core.Bool.{true}
 use native.Mathlib.Omega.{arith}
-use lib.Ieee.{Float}
-use Rattle.emath.specs.Steps.{Edge}
 use Rattle.emath.specs.Refusals.{when, lesser, least, lengthFault, frameFault, edgesFault}
 use Rattle.emath.proofs.Refusals.{lesser-none}
 use Rattle.emath.specs.declared.Rect.{Rect}
 use Rattle.emath.specs.declared.Vec2.{Vec2}
 use Rattle.layout.specs.Steps.{WholeRect}
 use Rattle.layout.specs.declared.Layout.{Layout}
-use Rattle.grid.specs.Grids as grid-rules
-use Rattle.grid.specs.Grids.{advanced, rowEnded}
 use Rattle.grid.specs.Refusals.{fitsGrid}
 use Rattle.grid.proofs.Cells.{next-cell-whole, align-size-within-rect-whole}
 use Rattle.grid.proofs.Advances.{Sound}
 use Rattle.grid.specs.declared.GridLayout.{GridLayout}
-use Rattle.placer.specs.Rules.{advanceAfterRects, endRow, advanceCursor, setRowHeight, setMaxWidth, setMaxHeight, setMinWidth, setMinHeight}
+use Rattle.placer.specs.Rules.{advanceCursor, setRowHeight, setMaxWidth, setMaxHeight, setMinWidth, setMinHeight}
 use Rattle.placer.specs.Refusals.{placerFault, changed}
 use Rattle.placer.specs.Operations.{checkedAdvanceCursor, checkedSetRowHeight, checkedEndRow}
 use Rattle.placer.specs.Steps.{WholeDown, WholeTops}
@@ -29,10 +24,8 @@ use Rattle.placer.proofs.WholeTopsCalls.{set-min-width-tops, set-min-height-top
 use Rattle.placer.proofs.WholeHeights.{advance-after-rects-down, end-row-down}
 use Rattle.placer.specs.declared.Placer.{Placer}
 use Rattle.records.specs.declared.Step.{Step}
-use Rattle.records.specs.declared.Step.the-variants.{Widget, Space, RowHeight, MaxWidth, MaxHeight, MinWidth, MinHeight, RowEnd}
-use Rattle.sheet.specs.Pass.{stepped, cellOf, pastCell, widgetStep}
-use Rattle.sheet.proofs.Runs.{Placed}
-use Rattle.sheet.proofs.GridMoves.{GridCell, grid-cell, frame-is, widget-is, RowEnded, row-ended, LeftAlone, Other, left-alone, space, rowHeight, maxWidth, maxHeight, minWidth, minHeight}
+use Rattle.sheet.specs.Pass.{stepped, cellOf, widgetStep}
+use Rattle.sheet.proofs.GridMoves.{GridCell, frame-is, widget-is, row-ended, LeftAlone, Other, left-alone, space, rowHeight, maxWidth, maxHeight, minWidth, minHeight}
 use Rattle.sheet.proofs.ColumnRuns.{advanced-sound, ended-is}
 
 -- what a grid is like where a run is
@@ -69,7 +62,8 @@ module _ (k : ℕ) (l : k ≤ 6) (sp : Vec2) (p : Placer) (i : OnSteps k p) wher
           fits = same-way p q (a .layout) (i .fits);
           sound = subst (λ (g : GridLayout). Sound (g .«curr_state»)) (sym (a .grid)) (advanced-sound (p .grid) (p .region .cursor) (c .widget) (a .col) (a .row) (i .sound));
           down = subst (λ (x : Placer). WholeDown k (x .grid)) (sym e) (advance-after-rects-down k l p (c .frame) (c .widget) sp (i .grid) (i .sound) (i .down) widget-whole (a .placed .after));
-          tops = subst (WholeTops k) (sym e) (advance-after-rects-tops k l p (i .fits) (i .tops) (c .frame) (c .widget) sp (i .grid) frame-whole (a .placed .after)) }
+          tops = subst (WholeTops k) (sym e) (advance-after-rects-tops k l p (i .fits) (i .tops) (c .frame) (c .widget) sp (i .grid) frame-whole (a .placed .after));
+        }
 
   -- ---- an E
   pub row-on-steps : checkedEndRow p sp .number ≡ 0 → OnSteps k (checkedEndRow p sp .placer)
@@ -81,7 +75,8 @@ module _ (k : ℕ) (l : k ≤ 6) (sp : Vec2) (p : Placer) (i : OnSteps k p) wher
         fits = same-way p q (a .layout) (i .fits);
         sound = subst (λ (g : GridLayout). Sound (g .«curr_state»)) (sym (a .grid)) (subst Sound (sym (ended-is (p .grid) (p .region .cursor) .0)) (i .sound));
         down = subst (λ (x : Placer). WholeDown k (x .grid)) (sym (a .is)) (end-row-down k l p sp (i .grid) (i .down));
-        tops = subst (WholeTops k) (sym (a .is)) (end-row-tops k l p (i .fits) (i .tops) sp (i .grid) (i .down) (a .fault)) }
+        tops = subst (WholeTops k) (sym (a .is)) (end-row-tops k l p (i .fits) (i .tops) sp (i .grid) (i .down) (a .fault));
+      }
 
   -- ---- the others
   alone-on-steps : (q : Placer) → LeftAlone p q → WholeTops k q → OnSteps k q
@@ -90,7 +85,8 @@ module _ (k : ℕ) (l : k ≤ 6) (sp : Vec2) (p : Placer) (i : OnSteps k p) wher
     fits = same-way p q (a .layout) (i .fits);
     sound = subst (λ (g : GridLayout). Sound (g .«curr_state»)) (sym (a .grid)) (i .sound);
     down = subst (WholeDown k) (sym (a .grid)) (i .down);
-    tops = t }
+    tops = t;
+  }
 
   tops-by : (n : ℕ) (q : Placer) → (placerFault q ≡ 0 → WholeTops k q) → changed n p q .number ≡ 0 → WholeTops k (changed n p q .placer)
   tops-by n q f h = let c = changed-accepted n p q h in subst (WholeTops k) (sym (c .2)) (f (c .1))

@@ -19,6 +19,14 @@ pub mod Listed
 pub mod RowHeights
 pub mod Settling
 pub mod FurtherPasses
+-- Grids, by the engine on f32 numbers.
+pub mod GridSpots
+pub mod GridSteps
+pub mod GridRun
+pub mod GridCounts
+pub mod GridHeads
+pub mod TickOrders
+pub mod Grids
 -- Whole ticks.
 pub mod WholeTops
 pub mod WholeEdges

@@ -1,8 +1,8 @@
 -- A memory in whole steps is two lists of whole numbers, with zeros beyond them: what a W notes lifts one entry of each, and two memories
 -- of the same lists are the same. Assumes nothing.
-use Prim.Native.Nat.{ℕ, zero, suc, _+_, _-_, _≤_, _<_, max}
-use mathlib.Core.Path.{_≡_, refl, ap, sym, _∙_, subst}
-use mathlib.Core.Bool.{Bool, true, false, cond}
+use Prim.Native.Nat.{ℕ, suc, _+_, _-_, _≤_, _<_, max}
+use mathlib.Core.Path.{_≡_, refl, ap, sym, _∙_}
+use mathlib.Core.Bool.{Bool, true, false}
 use mathlib.Core.List.{List, [], _∷_, map}
 use native.Mathlib.Omega.{arith}
 use lib.Dec.{ltb}
@@ -14,8 +14,8 @@ use Rattle.emath.specs.Rectangles.{zeroF, maxF, width, height}
 use Rattle.emath.specs.Steps.{most}
 use Rattle.emath.proofs.Tests.{is-lt}
 use Rattle.emath.specs.declared.Rect.{Rect}
-use Rattle.grid.specs.Entries.{raised, zeros}
-use Rattle.grid.specs.Memories.{emptyMemory, widths, heights, raisedCount, setMinColWidth, setMinRowHeight}
+use Rattle.grid.specs.Entries.{raised}
+use Rattle.grid.specs.Memories.{emptyMemory, raisedCount, setMinColWidth, setMinRowHeight}
 use Rattle.grid.specs.Grids.{noted}
 use Rattle.grid.proofs.Remembered.{Beyond, zeros-beyond, raised-beyond, length-raised}
 use Rattle.grid.proofs.Advances.{Sound}
@@ -26,8 +26,7 @@ use Rattle.model.proofs.Model.{lift}
 use Rattle.model.proofs.Embedding.{Upto, empty, upto-lift}
 use Rattle.model.proofs.Recorded.{raised-is}
 use Rattle.model.proofs.Ticks.{len}
-use Rattle.model.proofs.Floats.{ops, exact}
-use Rattle.model.proofs.Engine.{raise}
+use Rattle.model.proofs.Floats.{exact}
 use Rattle.sheet.proofs.Lists.{count-max, list-raised}
 
 -- an array with a count is the list c
@@ -48,14 +47,16 @@ listed-sound k cs rs m h = record {
   cols-room = h .cols-room;
   rows-room = h .rows-room;
   cols-few = omega (arith, h .cols .within, h .cols-room);
-  rows-few = omega (arith, h .rows .within, h .rows-room) }
+  rows-few = omega (arith, h .rows .within, h .rows-room);
+}
 
 pub listed-empty : (k : ℕ) → Listed k [] [] emptyMemory
 listed-empty k = record {
   cols-room = empty-sound .cols-room;
   rows-room = empty-sound .rows-room;
   cols = record { within = omega arith; are = refl; few = empty; beyond = zeros-beyond 32 0 };
-  rows = record { within = omega arith; are = refl; few = empty; beyond = zeros-beyond 128 0 } }
+  rows = record { within = omega arith; are = refl; few = empty; beyond = zeros-beyond 128 0 };
+}
 
 -- ---- an entry raised
 module _ (k : ℕ) (l : k ≤ 6) where
@@ -68,7 +69,8 @@ module _ (k : ℕ) (l : k ≤ 6) where
         within = omega (arith, L, count-max n (i + 1));
         are = list-raised k xs n i (maxF x m) N I ∙ raised-is (exact k (most k) l refl) (take n xs) c i x m v d (h .are) ex em vB dB (h .few);
         few = upto-lift i (omega arith) (h .few);
-        beyond = raised-beyond xs n i (maxF x m) N I (h .beyond) }
+        beyond = raised-beyond xs n i (maxF x m) N I (h .beyond);
+      }
 
   -- ---- what a W notes
   module _ (g : GridLayout) (v : Rect) (cs rs : List ℕ) (w t mw mh : ℕ) (h : Listed k cs rs (g .«curr_state»)) (i : g .col < 32) (j : g .row < 128)
@@ -85,7 +87,8 @@ module _ (k : ℕ) (l : k ≤ 6) where
           cols-room = length-raised (m .«col_widths») (m .cols) (g .col) _ (h .cols .within) (omega (arith, h .cols-room)) ∙ h .cols-room;
           rows-room = length-raised (m .«row_heights») (m .rows) (g .row) _ (h .rows .within) (omega (arith, h .rows-room)) ∙ h .rows-room;
           cols = a;
-          rows = b })
+          rows = b;
+        })
 
 -- ---- the same lists, the same memory
 zero-beyond : (xs : List Float) (n : ℕ) → Beyond xs n → (j : ℕ) → n ≤ j → j < length xs → getD xs j nan ≡ zeroF

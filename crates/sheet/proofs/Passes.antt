@@ -3,26 +3,24 @@
 use Prim.Native.Nat.{ℕ, zero, suc}
 use mathlib.Core.Path.{_≡_, refl, ap, sym, _∙_, subst}
 use mathlib.Core.Bool.{Bool, true, false, cond}
-use mathlib.Core.List.{List, [], _∷_, _++_}
 use native.Mathlib.Omega.{arith}
 use lib.Dec.{eqb}
-use Rattle.emath.specs.Refusals.{rectFault, orElse}
+use Rattle.emath.specs.Refusals.{rectFault}
 use Rattle.emath.proofs.Refusals.{or-none}
 use Rattle.grid.specs.Grids.{newGrid, save}
-use Rattle.grid.specs.Refusals.{gridAnswer, gridFault}
+use Rattle.grid.specs.Refusals.{gridAnswer}
 use Rattle.grid.specs.Operations.{checkedNew}
 use Rattle.grid.specs.declared.Memory.{Memory}
 use Rattle.grid.specs.declared.GridLayout.{GridLayout}
 use Rattle.placer.specs.Rules.{newPlacer, setGrid, saveGrid}
-use Rattle.placer.specs.Refusals.{placerFault, changed, zeroPlacer}
+use Rattle.placer.specs.Refusals.{placerFault, zeroPlacer}
 use Rattle.placer.specs.Operations.{checkedSetGrid}
 use Rattle.placer.proofs.Accepted.{changed-accepted}
 use Rattle.placer.specs.declared.Placer.{Placer}
-use Rattle.placer.specs.declared.PlacerAnswer.{PlacerAnswer}
 use Rattle.records.specs.declared.Heading.{Heading}
 use Rattle.records.specs.declared.GridOptions.{GridOptions}
-use Rattle.sheet.specs.Pass.{Sheet, Cell, Ran, Outcome, called, followed, runFrom, headed, gridOf, gridded, plateOf, remembered, refusedAt, outcomeOf, begun, ranWith, pass}
-use Rattle.sheet.proofs.Runs.{some, Going, going}
+use Rattle.sheet.specs.Pass.{Sheet, Ran, Outcome, called, followed, runFrom, headed, gridOf, gridded, plateOf, remembered, refusedAt, outcomeOf, begun, ranWith, pass}
+use Rattle.sheet.proofs.Runs.{some, going}
 
 -- ---- an outcome that is not refused
 pub record Given (grid : Bool) (m : Memory) (r : Ran) (o : Outcome) : Type 0 where
@@ -120,7 +118,8 @@ module _ (k : ℕ) (s : Sheet) (known : Bool) (m : Memory) (sizing : Bool) where
         fault = b .1;
         run = ap (λ (q : Placer). last q .number) (sym (b .0)) ∙ a .rest;
         cells = ap (λ (r : Ran). r .cells) e ∙ a .cells ∙ ap (λ (q : Placer). last q .cells) (b .0);
-        placer = ap (λ (r : Ran). r .placer) e ∙ a .placer ∙ ap (λ (q : Placer). last q .placer) (b .0) }
+        placer = ap (λ (r : Ran). r .placer) e ∙ a .placer ∙ ap (λ (q : Placer). last q .placer) (b .0);
+      }
 
   -- the records from H on
   record FromHead (r : Ran) : Type 0 where
@@ -145,7 +144,8 @@ module _ (k : ℕ) (s : Sheet) (known : Bool) (m : Memory) (sizing : Bool) where
         placed = b .2;
         run = ap (λ (q : Placer). ranWith k s known m sizing q .number) (sym (b .2)) ∙ a .rest;
         cells = a .cells ∙ ap (λ (q : Placer). ranWith k s known m sizing q .cells) (b .2);
-        placer = a .placer ∙ ap (λ (q : Placer). ranWith k s known m sizing q .placer) (b .2) }
+        placer = a .placer ∙ ap (λ (q : Placer). ranWith k s known m sizing q .placer) (b .2);
+      }
 
   pass-given : pass k s known m sizing .number ≡ 0 → Given (s .«has_grid») m whole (pass k s known m sizing)
   unfolding pass
@@ -169,7 +169,8 @@ module _ (k : ℕ) (s : Sheet) (known : Bool) (m : Memory) (sizing : Bool) where
         run = c .run;
         cells = a .cells ∙ b .cells ∙ c .cells;
         plate = a .plate ∙ ap (λ (x : Placer). plateOf x) q;
-        memory = a .memory ∙ saved (s .«has_grid») (whole .placer) g ∙ ap (λ (x : Placer). saveGrid x .memory) q }
+        memory = a .memory ∙ saved (s .«has_grid») (whole .placer) g ∙ ap (λ (x : Placer). saveGrid x .memory) q;
+      }
 
   -- a pass of a sheet without a grid
   pub record PlainPass : Type 0 where
@@ -193,4 +194,5 @@ module _ (k : ℕ) (s : Sheet) (known : Bool) (m : Memory) (sizing : Bool) where
         begin = b .begin;
         run = ap (λ (r : Ran). r .number) (sym e) ∙ b .run;
         cells = a .cells ∙ b .cells ∙ ap (λ (r : Ran). r .cells) e;
-        plate = a .plate ∙ ap (λ (x : Placer). plateOf x) (b .placer ∙ ap (λ (r : Ran). r .placer) e) }
+        plate = a .plate ∙ ap (λ (x : Placer). plateOf x) (b .placer ∙ ap (λ (r : Ran). r .placer) e);
+      }

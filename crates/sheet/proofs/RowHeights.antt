@@ -1,26 +1,22 @@
 -- The height that a W notes in a grid: at least its control's, and at most its frame's, which is the larger of the control's and the one
 -- remembered for the row. Where the cursor's top is whole. For steps of 1 to 1/64 point. Assumes nothing.
-use Prim.Native.Nat.{ℕ, zero, suc, _+_, _≤_, _<_, max}
-use mathlib.Core.Path.{_≡_, refl, ap, sym, _∙_}
+use Prim.Native.Nat.{ℕ, _+_, _≤_, max}
+use mathlib.Core.Path.{_≡_, refl, ap, _∙_}
 use mathlib.Core.List.{List, map}
 use native.Mathlib.Omega.{arith}
-use lib.ListN.{length, getD, List·getD-map}
-use lib.IntN.{ℤ, pos, negsuc, natAbs, _+ℤ_, _-ℤ_}
-use lib.Ieee.{Float, binary32, add}
-use Rattle.emath.specs.Rectangles.{maxF, height, fromMinSize, roundRect}
-use Rattle.emath.specs.Steps.{val, most, Edge}
-use Rattle.emath.proofs.Whole.{more, less, Within, _≤ᶻ_, sum, diff, maxZ, max-is, whole}
+use lib.ListN.{getD, List·getD-map}
+use lib.IntN.{ℤ, pos, negsuc, natAbs, _+ℤ_}
+use Rattle.emath.specs.Rectangles.{maxF, height, roundRect}
+use Rattle.emath.specs.Steps.{val, most}
+use Rattle.emath.proofs.Whole.{Within, _≤ᶻ_, sum, diff, maxZ, max-is, whole}
 use Rattle.emath.proofs.Values.{val-add, val-max}
 use Rattle.emath.proofs.Rounding.{val-whole}
-use Rattle.emath.proofs.Sums.{edge-small}
 use Rattle.emath.specs.declared.Rect.{Rect}
 use Rattle.emath.specs.declared.Vec2.{Vec2}
-use Rattle.grid.specs.Entries.{entry}
 use Rattle.grid.specs.Memories.{heights, rowHeight}
 use Rattle.grid.specs.Grids.{nextCell, alignSizeWithinRect, prevRowHeight}
 use Rattle.grid.proofs.Fair.{tall, tall-fair, widget-height}
 use Rattle.grid.specs.declared.GridLayout.{GridLayout}
-use Rattle.model.proofs.Embedding.{Upto, upto-getD}
 use Rattle.model.proofs.Ticks.{len, cap}
 use Rattle.sheet.proofs.Lists.{entry-get}
 

@@ -1,6 +1,6 @@
 -- An accepted run: each of its records is accepted, and so is the rest, from the placer that the record leaves. Assumes nothing.
 use Prim.Native.Nat.{ℕ, zero, suc, _+_}
-use mathlib.Core.Path.{_≡_, refl, ap, sym, subst}
+use mathlib.Core.Path.{_≡_, refl, sym, subst}
 use mathlib.Core.Bool.{Bool, true, false, cond}
 use mathlib.Core.List.{List, [], _∷_, _++_}
 use native.Mathlib.Omega.{arith}
@@ -68,4 +68,5 @@ widget-placed sp p s c h =
       frame = f .0;
       widget = outside-none (edgesFault (c .widget)) (w .0);
       after = outside-none (placerFault (pastCell sp p c)) (w .1);
-      placer = rw h }
+      placer = rw h;
+    }

@@ -1,24 +1,21 @@
 -- Through an accepted run of any records a grid's memory is two lists of whole numbers: the columns' are those of the controls alone, the
 -- rows' lie between the controls' heights and the frames', so they settle. For steps of 1 to 1/64 point. Assumes nothing.
-use Prim.Native.Nat.{ℕ, zero, suc, _+_, _≤_, _<_, max}
+use Prim.Native.Nat.{ℕ, suc, _+_, _≤_, max}
 use mathlib.Core.Path.{_≡_, refl, ap, sym, _∙_, subst}
-use mathlib.Core.Bool.{Bool, true, false}
 use mathlib.Core.List.{List, [], _∷_, map}
 use native.Mathlib.Omega.{arith}
-use native.Mathlib.Numerals.{add-one}
-use lib.ListN.{length, getD}
+use lib.ListN.{getD}
 use lib.IntN.{ℤ, pos, negsuc, natAbs}
-use lib.Ieee.{Float, binary32, mul, toSigned}
-use Rattle.emath.specs.Rectangles.{width, height}
-use Rattle.emath.specs.Steps.{two, val, most, Edge}
-use Rattle.emath.specs.Refusals.{sizeFault}
-use Rattle.emath.proofs.Whole.{more, less, Within, _≤ᶻ_}
+use lib.Ieee.{Float}
+use Rattle.emath.specs.Rectangles.{height}
+use Rattle.emath.specs.Steps.{val, most, Edge}
+use Rattle.emath.proofs.Whole.{Within, _≤ᶻ_}
 use Rattle.emath.proofs.Casts.{points-to-steps}
 use Rattle.emath.proofs.Sums.{edge-small}
 use Rattle.emath.specs.declared.Rect.{Rect}
 use Rattle.emath.specs.declared.Vec2.{Vec2}
 use Rattle.grid.specs.Memories.{heights}
-use Rattle.grid.specs.Grids.{advanced, rowEnded, noted, nextCell, alignSizeWithinRect}
+use Rattle.grid.specs.Grids.{advanced, rowEnded}
 use Rattle.grid.specs.declared.GridLayout.{GridLayout}
 use Rattle.grid.specs.declared.Memory.{Memory}
 use Rattle.placer.specs.Operations.{checkedEndRow}
@@ -33,8 +30,8 @@ use Rattle.model.proofs.Embedding.{Upto, upto-getD}
 use Rattle.model.proofs.Ticks.{len}
 use Rattle.sheet.specs.Pass.{stepped, runFrom, cellOf, widgetStep}
 use Rattle.sheet.specs.Sheets.{WholeSteps, ticks}
-use Rattle.sheet.proofs.Runs.{Going, run-goes}
-use Rattle.sheet.proofs.GridMoves.{GridCell, grid-cell, control-width, widget-is, RowEnded, row-ended, LeftAlone, Other, left-alone}
+use Rattle.sheet.proofs.Runs.{run-goes}
+use Rattle.sheet.proofs.GridMoves.{GridCell, grid-cell, control-width, widget-is, row-ended, Other, left-alone}
 use Rattle.sheet.proofs.GridTops.{OnSteps, control-on-steps, row-on-steps, other-on-steps}
 use Rattle.sheet.proofs.ColumnRuns.{advanced-is, ended-is}
 use Rattle.sheet.proofs.ColumnLaw.{not-negative, edge-not-negative}
@@ -95,7 +92,7 @@ module _ (k : ℕ) (l : k ≤ 6) (mw mh : ℕ) (mwB : mw ≤ most k) (mhB : mh �
 
     abbrev Controlled : Type 0
     Controlled = (v : ℕ) × (count k h ≤ v) × (v ≤ max (count k h) (getD given (p .grid .row) mh))
-      × At (p .grid .row) (p .grid .col + 1) (lift cs (p .grid .col) (max (count k w) mw)) (lift rs (p .grid .row) (max v mh)) next
+        × At (p .grid .row) (p .grid .col + 1) (lift cs (p .grid .col) (max (count k w) mw)) (lift rs (p .grid .row) (max v mh)) next
 
     after : (a : GridCell k sp p size) (v : ℕ) → count k h ≤ v → v ≤ max (count k h) (getD given (p .grid .row) mh) → v ≤ most k → w ≡ len k (count k w) → count k w ≤ most k
         → height (cellOf k sp p size .widget) ≡ len k v → Controlled
@@ -104,16 +101,21 @@ module _ (k : ℕ) (l : k ≤ 6) (mw mh : ℕ) (mwB : mw ≤ most k) (mhB : mh �
         let c = p .region .cursor in
         let m = cellOf k sp p size .widget in
         let d = advanced-is g c m in
-        let e = advanced-keeps g c m in
-        (v, low, high, record {
-          steps = control-on-steps k l sp p (i .steps) size a;
-          row-is = ap (λ (x : GridLayout). x .row) (a .grid) ∙ e .0;
-          col-is = ap (λ (x : GridLayout). x .col) (a .grid) ∙ d .1;
-          least-width = ap (λ (x : GridLayout). x .«min_cell_size» .x) (a .grid) ∙ ap (λ (u : Vec2). u .x) (d .2) ∙ i .least-width;
-          least-height = ap (λ (x : GridLayout). x .«min_cell_size» .y) (a .grid) ∙ ap (λ (u : Vec2). u .y) (d .2) ∙ i .least-height;
-          listed = subst (Listed k _ _) (sym (ap (λ (x : GridLayout). x .«curr_state») (a .grid) ∙ d .0))
-            (noted-listed k l g m cs rs (count k w) v mw mh (i .listed) (a .col) (a .row) (control-width k (omega arith) sp p size (i .steps .grid) ew a ∙ is) tall (i .least-width) (i .least-height) wB few mwB mhB);
-          given-are = ap (λ (x : GridLayout). heights (x .«prev_state»)) (a .grid) ∙ ap (λ (x : Memory). heights x) (e .1) ∙ i .given-are })
+        let e = advanced-keeps g c m in (
+          v,
+          low,
+          high,
+          record {
+            steps = control-on-steps k l sp p (i .steps) size a;
+            row-is = ap (λ (x : GridLayout). x .row) (a .grid) ∙ e .0;
+            col-is = ap (λ (x : GridLayout). x .col) (a .grid) ∙ d .1;
+            least-width = ap (λ (x : GridLayout). x .«min_cell_size» .x) (a .grid) ∙ ap (λ (u : Vec2). u .x) (d .2) ∙ i .least-width;
+            least-height = ap (λ (x : GridLayout). x .«min_cell_size» .y) (a .grid) ∙ ap (λ (u : Vec2). u .y) (d .2) ∙ i .least-height;
+            listed = subst (Listed k _ _) (sym (ap (λ (x : GridLayout). x .«curr_state») (a .grid) ∙ d .0))
+                (noted-listed k l g m cs rs (count k w) v mw mh (i .listed) (a .col) (a .row) (control-width k (omega arith) sp p size (i .steps .grid) ew a ∙ is) tall (i .least-width) (i .least-height) wB few mwB mhB);
+            given-are = ap (λ (x : GridLayout). heights (x .«prev_state»)) (a .grid) ∙ ap (λ (x : Memory). heights x) (e .1) ∙ i .given-are;
+          },
+        )
 
     control-here : stepped k sp p (Widget w h) .number ≡ 0 → Controlled
     unfolding stepped
@@ -138,7 +140,8 @@ module _ (k : ℕ) (l : k ≤ 6) (mw mh : ℕ) (mwB : mw ≤ most k) (mhB : mh �
     least-width = ap (λ (x : GridLayout). x .«min_cell_size» .x) e ∙ ap (λ (u : Vec2). u .x) em ∙ i .least-width;
     least-height = ap (λ (x : GridLayout). x .«min_cell_size» .y) e ∙ ap (λ (u : Vec2). u .y) em ∙ i .least-height;
     listed = subst (Listed k cs rs) (sym (ap (λ (x : GridLayout). x .«curr_state») e ∙ es)) (i .listed);
-    given-are = ap (λ (x : GridLayout). heights (x .«prev_state»)) e ∙ ap (λ (x : Memory). heights x) ep ∙ i .given-are }
+    given-are = ap (λ (x : GridLayout). heights (x .«prev_state»)) e ∙ ap (λ (x : Memory). heights x) ep ∙ i .given-are;
+  }
 
   counted-at : (r r′ c c′ d d′ : ℕ) (cs rs : List ℕ) (x y : ℕ) (q : Placer) → r ≡ r′ → c ≡ c′ → d ≡ d′ → At r d (lift cs c x) (lift rs r y) q → At r′ d′ (lift cs c′ x) (lift rs r′ y) q
   counted-at r r′ c c′ d d′ cs rs x y q er ec ed a =
@@ -210,7 +213,8 @@ module _ (k : ℕ) (l : k ≤ 6) (mw mh : ℕ) (mwB : mw ≤ most k) (mhB : mh �
           rows = t .rows;
           run = subst (λ (m : List model.Step). Run mh given row rs m (t .rows)) (sym e) (t .run);
           at = subst (λ (m : List model.Step). At (t .last-row) (t .last-col) (colsFrom mw col cs m) (t .rows) (runFrom k sp n p (st ∷ rest) .placer)) (sym e)
-            (subst (At (t .last-row) (t .last-col) (colsFrom mw col cs (modelSteps k rest)) (t .rows)) (sym (r .placer)) (t .at)) }
+              (subst (At (t .last-row) (t .last-col) (colsFrom mw col cs (modelSteps k rest)) (t .rows)) (sym (r .placer)) (t .at));
+        }
 
     pub settles : {steps : List Step} → WholeSteps k steps → Law steps
     unfolding modelSteps

@@ -1,7 +1,7 @@
 -- Every edge of every rectangle of an accepted pass is a whole step of the domain: the frames and widgets of any state, and the plate of a
 -- sheet in whole steps, with a grid (whatever memory it was given) and without. For steps of 1 to 1/64 point. Assumes nothing.
-use Prim.Native.Nat.{ℕ, zero, suc, _+_, _≤_}
-use mathlib.Core.Path.{_≡_, refl, ap, sym, _∙_, subst}
+use Prim.Native.Nat.{ℕ, _+_, _≤_}
+use mathlib.Core.Path.{_≡_, refl, sym, _∙_, subst}
 use mathlib.Core.Bool.{Bool, true, false}
 use mathlib.Core.List.{List, [], _∷_, _++_}
 use native.Mathlib.Omega.{arith}
@@ -26,8 +26,8 @@ use Rattle.records.specs.declared.Step.{Step}
 use Rattle.records.specs.declared.Step.the-variants.{Widget, Space, RowHeight, MaxWidth, MaxHeight, MinWidth, MinHeight, RowEnd}
 use Rattle.sheet.specs.Pass.{Sheet, Cell, cellOf, widgetStep, stepped, runFrom, plateOf, pass}
 use Rattle.sheet.specs.Sheets.{WholeSteps, WholeSheet}
-use Rattle.sheet.proofs.Runs.{Placed, widget-placed, Going, run-goes}
-use Rattle.sheet.proofs.Passes.{GridPass, grid-pass, PlainPass, plain-pass, start, gridStart}
+use Rattle.sheet.proofs.Runs.{Placed, widget-placed, run-goes}
+use Rattle.sheet.proofs.Passes.{grid-pass, PlainPass, plain-pass, start, gridStart}
 use Rattle.sheet.proofs.GridMoves.{LeftAlone, advance-alone, row-height-alone, max-width-alone, max-height-alone, min-width-alone, min-height-alone}
 use Rattle.sheet.proofs.WholeTops.{passed-through}
 
@@ -175,13 +175,15 @@ module _ (k : ℕ) (l : k ≤ 6) (s : Sheet) (w : WholeSheet k s) (known : Bool)
       let t = passed-through k l s w known m sizing g h in
       record {
         cells = subst (WholeCells k) (sym (p .cells)) (run-cells k (omega arith) (s .heading .spacing) 3 (gridStart k s known m sizing) (s .steps) (p .run));
-        plate = subst (WholeRect k) (sym (p .plate)) (min-whole _ (t .last .tops .inner)) }
+        plate = subst (WholeRect k) (sym (p .plate)) (min-whole _ (t .last .tops .inner));
+      }
   whole-by false g =
       let p = plain-pass k s known m sizing g h in
       let t = plain-run k l (s .heading .spacing) (w .spacing) (w .steps) 2 (start k s known m sizing) (starts-plain p) (p .run) in
       record {
         cells = subst (WholeCells k) (sym (p .cells)) (run-cells k (omega arith) (s .heading .spacing) 2 (start k s known m sizing) (s .steps) (p .run));
-        plate = subst (WholeRect k) (sym (p .plate)) (min-whole _ (t .whole .inner)) }
+        plate = subst (WholeRect k) (sym (p .plate)) (min-whole _ (t .whole .inner));
+      }
 
   pub whole-pass : WholePass k s known m sizing
   whole-pass = whole-by (s .«has_grid») refl

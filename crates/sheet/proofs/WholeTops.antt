@@ -1,20 +1,19 @@
 -- Each W of an accepted pass of a grid sheet in whole steps finds the cursor's top on a whole step, whatever records there are, K included,
 -- and whatever memory the pass was given. For steps of 1 to 1/64 point. Assumes nothing.
-use Prim.Native.Nat.{ℕ, zero, suc, _+_, _≤_}
-use mathlib.Core.Path.{_≡_, refl, ap, sym, _∙_, subst}
-use mathlib.Core.Bool.{Bool, true, false}
+use Prim.Native.Nat.{ℕ, _+_, _≤_}
+use mathlib.Core.Path.{_≡_, sym, subst}
+use mathlib.Core.Bool.{Bool, true}
 use mathlib.Core.List.{List, [], _∷_}
 use lib.Ieee.{Float}
 use Rattle.emath.specs.declared.Vec2.{Vec2}
 use Rattle.grid.specs.declared.Memory.{Memory}
-use Rattle.placer.specs.Rules.{newPlacer}
 use Rattle.placer.specs.declared.Placer.{Placer}
 use Rattle.records.specs.declared.Step.{Step}
 use Rattle.records.specs.declared.Step.the-variants.{Widget, Space, RowHeight, MaxWidth, MaxHeight, MinWidth, MinHeight, RowEnd}
-use Rattle.sheet.specs.Pass.{Sheet, cellOf, widgetStep, stepped, runFrom, headed, gridded, pass}
+use Rattle.sheet.specs.Pass.{Sheet, stepped, runFrom, pass}
 use Rattle.sheet.specs.Sheets.{WholeSheet}
 use Rattle.sheet.specs.Tops.{FindsTops, TopsOnSteps, NoK}
-use Rattle.sheet.proofs.Runs.{Going, run-goes}
+use Rattle.sheet.proofs.Runs.{run-goes}
 use Rattle.sheet.proofs.Passes.{GridPass, grid-pass, gridStart}
 use Rattle.sheet.proofs.GridMoves.{grid-cell, Other}
 use Rattle.sheet.proofs.GridTops.{OnSteps, control-on-steps, row-on-steps, other-on-steps}

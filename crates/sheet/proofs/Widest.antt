@@ -1,5 +1,5 @@
 -- The larger of the minimum and the widest of some controls is what their column is raised to, from nothing. Assumes nothing.
-use Prim.Native.Nat.{ℕ, zero, suc, _+_, _≤_, _<_, max}
+use Prim.Native.Nat.{ℕ, _+_, _≤_, _<_}
 use mathlib.Core.Path.{_≡_, refl, ap, sym, _∙_}
 use mathlib.Core.Bool.{Bool, true, false, cond}
 use mathlib.Core.List.{List, [], _∷_, map}
@@ -10,13 +10,11 @@ use lib.IntN.{ℤ, pos}
 use lib.Ieee.{Float, ofBits}
 use Rattle.emath.specs.Rectangles.{zeroF, maxF}
 use Rattle.emath.specs.Steps.{val, Edge}
-use Rattle.emath.proofs.Whole.{more, less, Within, _≤ᶻ_, maxZ, max-is, whole}
-use Rattle.emath.proofs.Exact.{Small}
+use Rattle.emath.proofs.Whole.{Within, _≤ᶻ_, maxZ, max-is, whole}
 use Rattle.emath.proofs.Values.{val-max}
 use Rattle.emath.proofs.Zeros.{val-zero}
 use Rattle.emath.proofs.Sums.{edge-small}
 use Rattle.records.specs.declared.Step.{Step}
-use Rattle.records.specs.declared.Step.the-variants.{Widget, Space, RowHeight, MaxWidth, MaxHeight, MinWidth, MinHeight, RowEnd}
 use Rattle.sheet.specs.Sheets.{WholeSteps, none, control, space, rowHeight, maxWidth, maxHeight, minWidth, minHeight, rowEnd}
 use Rattle.sheet.specs.Columns.{inColumn, widest}
 use Rattle.sheet.proofs.ColumnRuns.{raisedBy}

@@ -1,6 +1,6 @@
 -- The words of document 01's demand 3 about a sheet. Lengths are counted in steps of 1 / 2 ^ k point; a tick is the step at k = 5.
 use mathlib.Core.Path.{_≡_}
-use mathlib.Core.Bool.{Bool, true, false}
+use mathlib.Core.Bool.{true, false}
 use mathlib.Core.List.{List, [], _∷_}
 use Prim.Native.Nat.{ℕ}
 use lib.IntN.{ℤ, _-ℤ_}

@@ -30,3 +30,6 @@ pub mod Grids
 -- Whole ticks.
 pub mod WholeTops
 pub mod WholeEdges
+-- The clause.
+pub mod TextTicks
+pub mod PriceClause

@@ -24,6 +24,7 @@ use Rattle.grid.specs.declared.Memory.{Memory}
 use Rattle.placer.specs.declared.Placer.{Placer}
 use Rattle.records.specs.declared.Step.{Step}
 use Rattle.records.specs.declared.Step.the-variants.{Widget, Space, RowHeight, MaxWidth, MaxHeight, MinWidth, MinHeight, RowEnd}
+use Rattle.sheet.specs.PriceClause.{WholeCells, none, more}
 use Rattle.sheet.specs.Pass.{Sheet, Cell, cellOf, widgetStep, stepped, runFrom, plateOf, pass}
 use Rattle.sheet.specs.Sheets.{WholeSteps, WholeSheet}
 use Rattle.sheet.proofs.Runs.{Placed, widget-placed, run-goes}
@@ -35,10 +36,6 @@ use Rattle.sheet.proofs.WholeTops.{passed-through}
 pub record WholeCell (k : ℕ) (c : Cell) : Type 0 where
   pub frame : WholeRect k (c .frame)
   pub widget : WholeRect k (c .widget)
-
-pub data WholeCells (k : ℕ) : List Cell → Type 0 where
-  none : WholeCells k []
-  more : {c : Cell} {cs : List Cell} → WholeCell k c → WholeCells k cs → WholeCells k (c ∷ cs)
 
 module _ (k : ℕ) (l : k ≤ 7) where
   frame-by : (b : Bool) (p : Placer) (s sp : Vec2) → p .«has_grid» ≡ b → frameFault (nextSpace k p s sp) ≡ 0 → WholeRect k (nextSpace k p s sp)
@@ -54,10 +51,13 @@ module _ (k : ℕ) (l : k ≤ 7) where
   pub cell-whole : (sp : Vec2) (p : Placer) (s : Vec2) → Placed sp p s (cellOf k sp p s) → WholeCell k (cellOf k sp p s)
   cell-whole sp p s a = record { frame = frame-by (p .«has_grid») p s sp refl (a .frame); widget = widget-by (p .«has_grid») p _ s refl (a .widget) }
 
+  one : {c : Cell} → WholeCell k c → WholeCells k (c ∷ [])
+  one w = more (w .frame) (w .widget) none
+
   -- the cells of one record
   stepped-whole : (sp : Vec2) (p : Placer) (st : Step) → stepped k sp p st .number ≡ 0 → WholeCells k (stepped k sp p st .cells)
   unfolding stepped widgetStep
-  stepped-whole sp p (Widget w h) n = more (cell-whole sp p (record { x = w; y = h }) (widget-placed sp p (record { x = w; y = h }) (cellOf k sp p (record { x = w; y = h })) n)) none
+  stepped-whole sp p (Widget w h) n = one (cell-whole sp p (record { x = w; y = h }) (widget-placed sp p (record { x = w; y = h }) (cellOf k sp p (record { x = w; y = h })) n))
   stepped-whole sp p (Space a) n = none
   stepped-whole sp p RowEnd n = none
   stepped-whole sp p (RowHeight h) n = none
@@ -68,7 +68,7 @@ module _ (k : ℕ) (l : k ≤ 7) where
 
   both : {a b : List Cell} → WholeCells k a → WholeCells k b → WholeCells k (a ++ b)
   both none y = y
-  both (more c x) y = more c (both x y)
+  both (more a b x) y = more a b (both x y)
 
   pub run-cells : (sp : Vec2) (n : ℕ) (p : Placer) (steps : List Step) → runFrom k sp n p steps .number ≡ 0 → WholeCells k (runFrom k sp n p steps .cells)
   run-cells sp n p [] h = unfold runFrom in none

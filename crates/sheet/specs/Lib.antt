@@ -1,5 +1,7 @@
--- What a reader must believe of this crate: what a pass over a sheet gives, and the price clause's words.
+-- What a reader must believe of this crate: what a pass over a sheet gives, and the price clause.
 pub mod Pass
+pub mod Texts
 pub mod Sheets
 pub mod Columns
 pub mod Tops
+pub mod PriceClause

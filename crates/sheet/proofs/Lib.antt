@@ -33,3 +33,4 @@ pub mod WholeEdges
 -- The clause.
 pub mod TextTicks
 pub mod PriceClause
+pub mod Examples

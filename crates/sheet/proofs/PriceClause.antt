@@ -25,7 +25,8 @@ clause-of k l Is w = record {
   further = λ s x g p q t u n. subst (λ (i : ℕ). passes k s i ≡ passes k s 1) (two-more n) (further-passes k l s (w s x) g p q (suc n));
   without-K = λ s x g n known m sizing p. without-K k l s (w s x) known m sizing g p n;
   always = λ s x g known m sizing p. always-on-steps k l s (w s x) known m sizing g p;
-  whole = λ s x known m sizing p. (let r = whole-pass k l s (w s x) known m sizing p in (r .cells, r .plate)) }
+  whole = λ s x known m sizing p. (let r = whole-pass k l s (w s x) known m sizing p in (r .cells, r .plate));
+}
   where
     two-more : (n : ℕ) → suc (suc n) ≡ n + 2
     two-more n = omega arith

@@ -37,6 +37,11 @@ centred-fair B y H h le = go (halved B (2 * y + (H - h))) (halved B (2 * y + (H 
     go (above p e) (below q f) = omega arith
     go (above p e) (above q f) = omega arith
 
+-- halves upward would be fair too: a control would keep its own height
+pub upward-fair : Fair (λ y H h. (2 * y + (H - h) + 2 * h + 1) / 2 - (2 * y + (H - h) + 1) / 2)
+unfolding Fair
+upward-fair y H h le = (omega arith, omega arith)
+
 pub rounded-mono : (B a b : ℕ) → a ≤ b → rounded B a ≤ rounded B b
 rounded-mono B a b h = go (halved B a) (halved B b)
   where

@@ -33,4 +33,5 @@ pub mod WholeEdges
 -- The clause.
 pub mod TextTicks
 pub mod PriceClause
-pub mod Examples
+pub mod CaseTests
+pub mod Computed

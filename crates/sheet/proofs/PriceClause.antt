@@ -1,12 +1,10 @@
 -- The price clause holds: of every sheet whose lengths are whole steps of 1 to 1/64 point, and so of every sheet that is read from a text.
 -- Assumes nothing.
-use Prim.Native.Nat.{ℕ, zero, suc, _+_, _≤_}
-use mathlib.Core.Path.{_≡_, refl, ap, sym, _∙_, subst}
-use mathlib.Core.List.{List, [], _∷_}
+use Prim.Native.Nat.{ℕ, suc, _+_, _≤_}
+use mathlib.Core.Path.{_≡_, sym, subst}
 use native.Mathlib.Omega.{arith}
-use Rattle.sheet.specs.Pass.{Sheet, Cell, passes}
+use Rattle.sheet.specs.Pass.{Sheet, passes}
 use Rattle.sheet.specs.Sheets.{WholeSheet}
-use Rattle.sheet.specs.Texts.{sheetIn}
 use Rattle.sheet.specs.PriceClause.{PriceClause, OfText}
 use Rattle.sheet.proofs.Strips.{strips-grow}
 use Rattle.sheet.proofs.Grids.{grids-grow}

@@ -1,16 +1,15 @@
 -- Every sheet that is read from a text is in whole ticks, whatever the text. Assumes nothing.
 use Prim.Native.Nat.{ℕ, zero, suc, _+_, _*_, _≤_}
-use mathlib.Core.Path.{_≡_, refl, ap, sym, _∙_, subst}
+use mathlib.Core.Path.{_≡_, refl, sym}
 use mathlib.Core.Bool.{Bool, true, false, _&&_}
 use lib.Dec.{eqb}
 use mathlib.Core.List.{List, [], _∷_}
 use native.Mathlib.Omega.{arith}
 use lib.IntN.{ℤ, pos, natAbs}
-use lib.Ieee.{Float, ofBits}
+use lib.Ieee.{ofBits}
 use Rattle.emath.specs.Rectangles.{zeroF}
-use Rattle.emath.specs.Steps.{val, most, Edge}
+use Rattle.emath.specs.Steps.{Edge}
 use Rattle.emath.proofs.Zeros.{val-zero}
-use Rattle.emath.specs.declared.Vec2.{Vec2}
 use Rattle.layout.specs.Steps.{WholeRect, WholeSize}
 use Rattle.layout.specs.Rules.{zeroVec}
 use Rattle.layout.specs.Refusals.{zeroRect}
@@ -20,18 +19,15 @@ use Rattle.text.specs.declared.Field.the-variants as field
 use Rattle.text.proofs.RoundTrip.{at-is-text}
 use Rattle.records.specs.Parts.{letter, ends, points, inPoints, lengthIn, isLength, lengthValue, countIn, isCount}
 use Rattle.records.specs.Records.{pick, pairFits, layoutFits, maximaFit, isColumns, pairIn, rectIn, headingRecord, optionsIn, gridRecord, stepRecord, widgetRecord, singleRecord, recordOf}
-use Rattle.records.specs.Sheets.{recordsFrom, records}
-use Rattle.records.specs.declared.Length.{Length}
-use Rattle.records.specs.declared.Length.the-variants as length-of
+use Rattle.records.specs.Sheets.{recordsFrom}
 use Rattle.records.specs.declared.Heading.{Heading}
 use Rattle.records.specs.declared.GridOptions.{GridOptions}
 use Rattle.records.specs.declared.Step.{Step}
 use Rattle.records.specs.declared.Step.the-variants.{Widget, Space, RowHeight, MaxWidth, MaxHeight, MinWidth, MinHeight, RowEnd}
 use Rattle.records.specs.declared.Record.{Record}
 use Rattle.records.specs.declared.Record.the-variants as record-of
-use Rattle.sheet.specs.Pass.{Sheet}
 use Rattle.sheet.specs.Sheets.{WholeSteps, WholeSheet}
-use Rattle.sheet.specs.Texts.{stepsOf, noOptions, noHeading, afterHeading, sheetOf, sheetIn}
+use Rattle.sheet.specs.Texts.{stepsOf, noHeading, afterHeading, sheetOf, sheetIn}
 
 zero-edge : Edge 5 zeroF
 unfolding ofBits

@@ -5,3 +5,4 @@ pub mod Sheets
 pub mod Columns
 pub mod Tops
 pub mod PriceClause
+pub mod Cases

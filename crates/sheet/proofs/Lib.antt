@@ -33,5 +33,6 @@ pub mod WholeEdges
 -- The clause.
 pub mod TextTicks
 pub mod PriceClause
+pub mod Slices
 pub mod CaseTests
 pub mod Computed

@@ -2,6 +2,7 @@
 pub mod Pass
 pub mod Texts
 pub mod Sheets
+pub mod Slices
 pub mod Columns
 pub mod Tops
 pub mod PriceClause

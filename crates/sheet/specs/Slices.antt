@@ -1,0 +1,43 @@
+-- Document 01, "The sheet" and "Turned back": one pass over a text, with a lent slice for the rectangles. Ticks: k = 5.
+use Prim.Native.Nat.{ℕ}
+use mathlib.Core.Bool.{Bool}
+use mathlib.Core.List.{List, [], _∷_, _++_}
+use lib.IntN.{ℤ}
+use lib.ListN.{length}
+use lib.Seq.{sets}
+use Rattle.emath.specs.declared.Rect.{Rect}
+use Rattle.grid.specs.declared.Memory.{Memory}
+use Rattle.records.specs.Sheets.{checked}
+use Rattle.records.specs.declared.Checked.{Checked}
+use Rattle.records.specs.declared.Checked.the-variants.{Accepted, Refused}
+use Rattle.sheet.specs.Pass.{Cell, Outcome, refusedAt, pass}
+use Rattle.sheet.specs.Texts.{sheetIn}
+use Rattle.sheet.specs.Sheets.{Ticks, inTicks}
+
+-- "W number k, from 0, fills places 8k to 8k + 7 of a lent i32 slice: frame, then widget, in ticks."
+abbrev pub edges : Ticks → List ℤ
+edges t = t .left ∷ t .top ∷ t .right ∷ t .bottom ∷ []
+
+abbrev pub eight : Cell → List ℤ
+eight c = edges (inTicks 5 (c .frame)) ++ edges (inTicks 5 (c .widget))
+
+unfoldable pub written : List Cell → List ℤ
+written [] = []
+written (c ∷ rest) = eight c ++ written rest
+
+-- what a pass gives, and what the slice then holds
+pub record Laid : Type 0 where
+  pub outcome : Outcome
+  pub slice : List ℤ
+
+-- "After 1 to 3 the lent slice is untouched; later, records before the fault have theirs and all other places keep what they held before that
+-- pass."
+unfoldable pub judged : Checked → List ℕ → Bool → Memory → Bool → List ℤ → Laid
+judged (Refused n at) text known m sizing out = record { outcome = refusedAt n at [] m; slice = out }
+judged (Accepted records widgets) text known m sizing out = record {
+  outcome = pass 5 (sheetIn text) known m sizing;
+  slice = sets out 0 (written (pass 5 (sheetIn text) known m sizing .cells));
+}
+
+unfoldable pub laid : List ℕ → Bool → Memory → Bool → List ℤ → Laid
+laid text known m sizing out = judged (checked text (length out)) text known m sizing out

@@ -51,6 +51,13 @@ unfolding after
 after-first zero u h = absurd (omega arith)
 after-first (suc left) u h = let e : suc left - 1 ≡ left = omega arith in rw e
 
+-- the records from a place on, taken one by one
+pub records-step : (left : ℕ) (s : List ℕ) (at : ℕ) → 0 < left → at < length s → recordsFrom left (drop at s) ≡ recordAt s at ∷ recordsFrom (left - 1) (drop (nextAt s at) s)
+unfolding recordAt
+records-step left s at more here =
+    let l : 0 < length (drop at s) = omega (arith, length-drop at s) in
+    first-of left (drop at s) more l ∙ rw (next-is-rest s at)
+
 placed-on : (k : ℕ) (r : Record) (rs : List Record) (m : ℕ) → placed k r ≡ true → misplaced k (r ∷ rs) ≡ m → misplaced (k + 1) rs ≡ m
 unfolding misplaced
 placed-on k r rs m e h = rw e at h
@@ -65,10 +72,7 @@ counted w n m r rs e h = omega arith
 
 module _ (s : List ℕ) (at k w left : ℕ) (h : Reached s at k w left) (more : 0 < left) (here : at < length s) (r : Record) (er : r ≡ recordAt s at) where
   first : recordsFrom left (drop at s) ≡ r ∷ recordsFrom (left - 1) (drop (nextAt s at) s)
-  unfolding recordAt
-  first =
-      let l : 0 < length (drop at s) = omega (arith, length-drop at s) in
-      first-of left (drop at s) more l ∙ rw (er, next-is-rest s at)
+  first = records-step left s at more here ∙ rw er
 
   pub unplaced : placed (k + 1) r ≡ false → k + 1 ≡ misplaced 1 (records s)
   unplaced e = stops (k + 1) r _ _ e (ap (λ (rs : List Record). misplaced (k + 1) rs) (sym first) ∙ h .fault)

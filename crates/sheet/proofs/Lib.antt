@@ -34,5 +34,7 @@ pub mod WholeEdges
 pub mod TextTicks
 pub mod PriceClause
 pub mod Slices
+pub mod Ticking
+pub mod Walking
 pub mod CaseTests
 pub mod Computed

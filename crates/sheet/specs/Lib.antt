@@ -3,6 +3,8 @@ pub mod Pass
 pub mod Texts
 pub mod Sheets
 pub mod Slices
+pub mod Calls
+pub mod Walks
 pub mod Columns
 pub mod Tops
 pub mod PriceClause

@@ -1,1 +1,24 @@
-// A sheet's pass: the rules in specs/, and what is proved of them.
+// A sheet's pass: the rules in specs/, the call that runs them, and what is proved of them.
+use emath::Rect;
+use placer::Placer;
+
+mod cells;
+mod walk;
+mod steps;
+
+// What a record gives: its number (0: none), the placer after it, the given one where it is refused; how many W it is, 1 or 0, and a W's
+// rectangles.
+pub struct Moved {
+    pub number: u8,
+    pub placer: Placer,
+    pub placed: usize,
+    pub frame: Rect,
+    pub widget: Rect,
+}
+
+// How far a run came: a refusal's number (0: none) and record, and the placer.
+pub struct Run {
+    pub number: u8,
+    pub at: usize,
+    pub placer: Placer,
+}

@@ -1,0 +1,142 @@
+-- A run over a text, a record at a time: one turn of it, what each return answers, and that the slice has room for each W, whose rectangles
+-- are whole ticks. Assumes nothing.
+use Prim.Native.Nat.{ℕ, zero, suc, _+_, _-_, _*_, _≤_, _<_}
+use mathlib.Core.Path.{_≡_, refl, ap, sym, _∙_, subst}
+use mathlib.Core.Bool.{Bool, true, false}
+use mathlib.Core.List.{List, [], _∷_}
+use native.Mathlib.Omega.{arith}
+use lib.Dec.{eqb}
+use borrow.Author.Tests.{eq-eqb, ne-eqb}
+use lib.IntN.{ℤ}
+use lib.ListN.{length, drop, length-drop, drop-of-length-le}
+use Rattle.emath.specs.declared.Vec2.{Vec2}
+use Rattle.layout.specs.Steps.{WholeRect}
+use Rattle.placer.specs.declared.Placer.{Placer}
+use Rattle.records.specs.Records.{recordOf, recordAt, rest, nextAt}
+use Rattle.records.specs.Sheets.{recordsFrom, widget, widgetStep, widgets}
+use Rattle.records.proofs.Places.{next-is-rest}
+use Rattle.records.proofs.Reached.{records-step}
+use Rattle.records.specs.declared.Step.{Step}
+use Rattle.records.specs.declared.Step.the-variants.{Widget, Space, RowHeight, MaxWidth, MaxHeight, MinWidth, MinHeight, RowEnd}
+use Rattle.records.specs.declared.Record.{Record}
+use Rattle.records.specs.declared.Record.the-variants as record-of
+use Rattle.sheet.specs.declared.Moved.{Moved}
+use Rattle.sheet.specs.Pass.{cellOf}
+use Rattle.sheet.specs.Calls.{placement, stepMoved, recordMoved}
+use Rattle.sheet.specs.Walks.{putAt, Walk, pick, done, walked}
+use Rattle.sheet.proofs.Runs.{widget-placed}
+use Rattle.sheet.proofs.WholeEdges.{WholeCell, cell-whole}
+
+-- ---- a record that is a W, and no other, has a place
+step-placed : (p : Placer) (sp : Vec2) (st : Step) → stepMoved p sp st .placed ≡ widgetStep st
+unfolding stepMoved placement widgetStep
+step-placed p sp (Widget w h) = refl
+step-placed p sp (Space a) = refl
+step-placed p sp (RowHeight h) = refl
+step-placed p sp (MaxWidth w) = refl
+step-placed p sp (MaxHeight h) = refl
+step-placed p sp (MinWidth w) = refl
+step-placed p sp (MinHeight h) = refl
+step-placed p sp RowEnd = refl
+
+pub moved-placed : (p : Placer) (sp : Vec2) (r : Record) → recordMoved p sp r .placed ≡ widget r
+unfolding recordMoved widget
+moved-placed p sp (record-of.Heading h) = refl
+moved-placed p sp (record-of.Grid g) = refl
+moved-placed p sp (record-of.Step st) = step-placed p sp st
+moved-placed p sp record-of.Wrong = refl
+
+abbrev pub Whole : Moved → Type 0
+Whole m = WholeRect 5 (m .frame) × WholeRect 5 (m .widget)
+
+step-whole : (p : Placer) (sp : Vec2) (st : Step) → stepMoved p sp st .number ≡ 0 → 0 < stepMoved p sp st .placed → Whole (stepMoved p sp st)
+unfolding stepMoved placement
+step-whole p sp (Widget w h) n l = let c = cell-whole 5 (omega arith) sp p (record { x = w; y = h }) (widget-placed sp p (record { x = w; y = h }) (cellOf 5 sp p (record { x = w; y = h })) n) in (c .frame, c .widget)
+step-whole p sp (Space a) n l = absurd (omega (arith, l))
+step-whole p sp (RowHeight h) n l = absurd (omega (arith, l))
+step-whole p sp (MaxWidth w) n l = absurd (omega (arith, l))
+step-whole p sp (MaxHeight h) n l = absurd (omega (arith, l))
+step-whole p sp (MinWidth w) n l = absurd (omega (arith, l))
+step-whole p sp (MinHeight h) n l = absurd (omega (arith, l))
+step-whole p sp RowEnd n l = absurd (omega (arith, l))
+
+pub moved-whole : (p : Placer) (sp : Vec2) (r : Record) → recordMoved p sp r .number ≡ 0 → 0 < recordMoved p sp r .placed → Whole (recordMoved p sp r)
+unfolding recordMoved
+moved-whole p sp (record-of.Heading h) n l = absurd (omega (arith, l))
+moved-whole p sp (record-of.Grid g) n l = absurd (omega (arith, l))
+moved-whole p sp (record-of.Step st) n l = step-whole p sp st n l
+moved-whole p sp record-of.Wrong n l = absurd (omega (arith, l))
+
+one-or-none : (st : Step) → widgetStep st ≤ 1
+unfolding widgetStep
+one-or-none (Widget w h) = omega arith
+one-or-none (Space a) = omega arith
+one-or-none (RowHeight h) = omega arith
+one-or-none (MaxWidth w) = omega arith
+one-or-none (MaxHeight h) = omega arith
+one-or-none (MinWidth w) = omega arith
+one-or-none (MinHeight h) = omega arith
+one-or-none RowEnd = omega arith
+
+at-most-one : (r : Record) → widget r ≤ 1
+unfolding widget
+at-most-one (record-of.Heading h) = omega arith
+at-most-one (record-of.Grid g) = omega arith
+at-most-one (record-of.Step st) = one-or-none st
+at-most-one record-of.Wrong = omega arith
+
+-- ---- one turn
+front : (left : ℕ) (sp : Vec2) (n : ℕ) (p : Placer) (u : List ℕ) (out : List ℤ) (w : ℕ) → 0 < left → 0 < length u
+    → walked left sp n p u out w
+      ≡ pick (eqb (recordMoved p sp (recordOf u) .number) 0)
+        (walked (left - 1) sp (n + 1) (recordMoved p sp (recordOf u) .placer) (rest u) (putAt out w (recordMoved p sp (recordOf u) .placed) (recordMoved p sp (recordOf u) .frame) (recordMoved p sp (recordOf u) .widget)) (w + recordMoved p sp (recordOf u) .placed))
+        (record { run = record { number = recordMoved p sp (recordOf u) .number; at = n; placer = recordMoved p sp (recordOf u) .placer }; slice = out })
+unfolding walked
+front zero sp n p u out w h l = absurd (omega arith)
+front (suc left) sp n p [] out w h l = absurd (omega arith)
+front (suc left) sp n p (b ∷ u) out w h l = let e : suc left - 1 ≡ left = omega arith in rw e
+
+ended-walk : (left : ℕ) (sp : Vec2) (n : ℕ) (p : Placer) (out : List ℤ) (w : ℕ) → walked left sp n p [] out w ≡ done p out
+unfolding walked
+ended-walk zero sp n p out w = refl
+ended-walk (suc left) sp n p out w = refl
+
+full-walk : (left : ℕ) (sp : Vec2) (n : ℕ) (p : Placer) (u : List ℕ) (out : List ℤ) (w : ℕ) → left ≤ 0 → walked left sp n p u out w ≡ done p out
+unfolding walked
+full-walk zero sp n p u out w h = refl
+full-walk (suc left) sp n p u out w h = absurd (omega arith)
+
+module _ (text : List ℕ) (sp : Vec2) (left n at w : ℕ) (p : Placer) (out : List ℤ) (r : Walk) (inv : walked left sp n p (drop at text) out w ≡ r) where
+  pub walk-ends : length text ≤ at → done p out ≡ r
+  walk-ends h = sym (ended-walk left sp n p out w) ∙ ap (λ (u : List ℕ). walked left sp n p u out w) (sym (drop-of-length-le text h)) ∙ inv
+
+  pub walk-is-full : left ≤ 0 → done p out ≡ r
+  walk-is-full h = sym (full-walk left sp n p (drop at text) out w h) ∙ inv
+
+  module _ (more : 0 < left) (here : at < length text) (m : Moved) (em : m ≡ recordMoved p sp (recordAt text at)) where
+    turn : pick (eqb (m .number) 0) (walked (left - 1) sp (n + 1) (m .placer) (drop (nextAt text at) text) (putAt out w (m .placed) (m .frame) (m .widget)) (w + m .placed))
+        (record { run = record { number = m .number; at = n; placer = m .placer }; slice = out }) ≡ r
+    unfolding recordAt
+    turn =
+        let l : 0 < length (drop at text) = omega (arith, length-drop at text) in
+        rw (em, next-is-rest text at) (sym (front left sp n p (drop at text) out w more l) ∙ inv)
+
+    pub walk-stops : (m .number ≡ 0 → ⊥) → record { run = record { number = m .number; at = n; placer = m .placer }; slice = out } ≡ r
+    walk-stops h = rw (ne-eqb (m .number) 0 h) at turn
+
+    pub walk-goes-on : m .number ≡ 0 → walked (left - 1) sp (n + 1) (m .placer) (drop (nextAt text at) text) (putAt out w (m .placed) (m .frame) (m .widget)) (w + m .placed) ≡ r
+    walk-goes-on h = rw (eq-eqb (m .number) 0 h) at turn
+
+    -- the slice has room for the W that are left
+    pub room-left : 8 * (w + widgets (recordsFrom left (drop at text))) ≤ length out → 8 * (w + m .placed + widgets (recordsFrom (left - 1) (drop (nextAt text at) text))) ≤ length out
+    unfolding widgets
+    room-left h =
+        let e : widgets (recordsFrom left (drop at text)) ≡ widget (recordAt text at) + widgets (recordsFrom (left - 1) (drop (nextAt text at) text)) = ap (λ (rs : List Record). widgets rs) (records-step left text at more here) in
+        let q : m .placed ≡ widget (recordAt text at) = ap (λ (x : Moved). x .placed) em ∙ moved-placed p sp (recordAt text at) in
+        omega (arith, h, e, q)
+
+    pub moved-few : m .placed ≤ 1
+    moved-few = omega (arith, ap (λ (x : Moved). x .placed) em ∙ moved-placed p sp (recordAt text at), at-most-one (recordAt text at))
+
+    pub moved-in-ticks : m .number ≡ 0 → 0 < m .placed → Whole m
+    moved-in-ticks h l = subst Whole (sym em) (moved-whole p sp (recordAt text at) (ap (λ (x : Moved). x .number) (sym em) ∙ h) (subst (λ (x : Moved). 0 < x .placed) em l))

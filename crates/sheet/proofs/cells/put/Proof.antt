@@ -1,0 +1,34 @@
+use borrow.Author.Tests.{lt-ltb, le-ltb}
+use native.Mathlib.Omega.{arith}
+use Rattle.sheet.specs.Walks.{putAt}
+use borrow.Author.Needs.{needs}
+use Rattle.sheet.proofs.cells.put.Statement.{statement}
+use Rattle.sheet.proofs.cells.put.Tie as tie
+use Rattle.sheet.proofs.cells.put.Reads as reads
+use Rattle.sheet.proofs.cells.put.Lts as lts
+use Rattle.sheet.proofs.cells.write_cell.Reads as write-cell-reads
+
+returns : tie.Need-returns
+unfolding putAt
+returns c = (omega arith, rw (lt-ltb _ _ (c .if1 .taken)))
+
+mul-write-cell : tie.Need-mul-write-cell
+mul-write-cell c = search needs
+
+write-cell-requires : tie.Need-write-cell-requires
+write-cell-requires c κs = (omega arith, c .before .before .pre .1 (omega arith))
+
+add-result : tie.Need-add-result
+add-result c = search needs
+
+same-length : tie.Need-same-length
+same-length c = search needs
+
+returns-2 : tie.Need-returns-2
+unfolding putAt
+returns-2 c = (omega arith, rw (le-ltb _ _ (c .before .before .before .if1 .left)) (c .before .write-cell .ensures))
+
+pub put-spec : {M : Type 1} → statement M
+put-spec =
+    tie.close
+    (tie.spec returns mul-write-cell write-cell-requires add-result same-length returns-2)

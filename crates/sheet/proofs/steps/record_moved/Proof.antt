@@ -1,0 +1,23 @@
+use borrow.Author.Needs.{needs}
+use Rattle.sheet.specs.Calls.{recordMoved}
+use Rattle.sheet.proofs.steps.record_moved.Statement.{statement}
+use Rattle.sheet.proofs.steps.record_moved.Tie as tie
+
+returns : tie.Need-returns
+unfolding recordMoved
+returns c = rw (c .before .enum-told .given .1, c .misplaced .ensures)
+
+returns-2 : tie.Need-returns-2
+unfolding recordMoved
+returns-2 c = rw (c .before .enum-told2 .given .1, c .misplaced2 .ensures)
+
+returns-3 : tie.Need-returns-3
+unfolding recordMoved
+returns-3 c = rw (c .step-moved .ensures, c .before .before .r .given .1)
+
+returns-4 : tie.Need-returns-4
+unfolding recordMoved
+returns-4 c = rw (c .before .enum-told3 .given .1, c .misplaced3 .ensures)
+
+pub record-moved-spec : {M : Type 1} → statement M
+record-moved-spec = tie.close (tie.spec (λ c. search needs) (λ c κs. search needs) (λ c. search needs) (λ c κs. search needs) (λ c. search needs) (λ c κs. search needs) (λ c. search needs) (λ c κs. search needs) returns returns-2 returns-3 returns-4)

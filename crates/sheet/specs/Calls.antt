@@ -1,0 +1,53 @@
+-- What the code's calls answer, as the rule of a pass has it, in ticks: k = 5.
+use Prim.Native.Nat.{ℕ}
+use mathlib.Core.List.{[], _∷_}
+use Rattle.emath.specs.Refusals.{least, sizeFault, pairFault, edgesFault, outside, frameFault}
+use Rattle.emath.specs.declared.Rect.{Rect}
+use Rattle.emath.specs.declared.Vec2.{Vec2}
+use Rattle.layout.specs.Refusals.{zeroRect}
+use Rattle.placer.specs.Refusals.{placerFault, advanceFault}
+use Rattle.placer.specs.Operations.{checkedAdvanceCursor, checkedEndRow, checkedSetRowHeight, checkedSetMaxWidth, checkedSetMaxHeight, checkedSetMinWidth, checkedSetMinHeight}
+use Rattle.placer.specs.declared.Placer.{Placer}
+use Rattle.placer.specs.declared.PlacerAnswer.{PlacerAnswer}
+use Rattle.records.specs.declared.Step.{Step}
+use Rattle.records.specs.declared.Step.the-variants.{Widget, Space, RowHeight, MaxWidth, MaxHeight, MinWidth, MinHeight, RowEnd}
+use Rattle.records.specs.declared.Record.{Record}
+use Rattle.records.specs.declared.Record.the-variants as record-of
+use Rattle.sheet.specs.declared.Moved.{Moved}
+use Rattle.sheet.specs.Pass.{cellOf, widgetStep}
+
+-- 4 to 8 of what a W's calls are given, 9 and 10 of what they answer
+unfoldable pub givenNumber : Placer → Vec2 → Vec2 → ℕ
+givenNumber p sp s = least (placerFault p ∷ sizeFault s ∷ pairFault (sp .x) (sp .y) ∷ advanceFault p ∷ [])
+
+unfoldable pub answeredNumber : Rect → Rect → Placer → ℕ
+answeredNumber f w after = least (frameFault f ∷ outside (edgesFault w) ∷ outside (placerFault after) ∷ [])
+
+-- a W, and a record that is one call
+unfoldable pub placement : Placer → Vec2 → Vec2 → Moved
+placement p sp s = record {
+  number = widgetStep sp p s (cellOf 5 sp p s) .number;
+  placer = widgetStep sp p s (cellOf 5 sp p s) .placer;
+  placed = 1;
+  frame = cellOf 5 sp p s .frame;
+  widget = cellOf 5 sp p s .widget }
+
+abbrev pub calledBy : PlacerAnswer → Moved
+calledBy a = record { number = a .number; placer = a .placer; placed = 0; frame = zeroRect; widget = zeroRect }
+
+unfoldable pub stepMoved : Placer → Vec2 → Step → Moved
+stepMoved p sp (Widget w h) = placement p sp (record { x = w; y = h })
+stepMoved p sp (Space a) = calledBy (checkedAdvanceCursor p a)
+stepMoved p sp (RowHeight h) = calledBy (checkedSetRowHeight p h)
+stepMoved p sp (MaxWidth w) = calledBy (checkedSetMaxWidth p w)
+stepMoved p sp (MaxHeight h) = calledBy (checkedSetMaxHeight p h)
+stepMoved p sp (MinWidth w) = calledBy (checkedSetMinWidth p w)
+stepMoved p sp (MinHeight h) = calledBy (checkedSetMinHeight p h)
+stepMoved p sp RowEnd = calledBy (checkedEndRow p sp)
+
+-- a sheet that was checked has nothing but steps here
+unfoldable pub recordMoved : Placer → Vec2 → Record → Moved
+recordMoved p sp (record-of.Heading h) = calledBy (record { number = 1; placer = p })
+recordMoved p sp (record-of.Grid g) = calledBy (record { number = 1; placer = p })
+recordMoved p sp (record-of.Step st) = stepMoved p sp st
+recordMoved p sp record-of.Wrong = calledBy (record { number = 1; placer = p })

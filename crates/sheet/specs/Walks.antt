@@ -1,0 +1,43 @@
+-- A run over the records of a text, with a slice, as the code walks it: from the front of the text on, record by record.
+use Prim.Native.Nat.{ℕ, zero, suc, _+_, _*_}
+use mathlib.Core.Bool.{Bool, true, false, cond}
+use mathlib.Core.List.{List, [], _∷_, _++_}
+use lib.IntN.{ℤ}
+use lib.Dec.{eqb, ltb}
+use lib.Seq.{sets}
+use Rattle.emath.specs.declared.Rect.{Rect}
+use Rattle.emath.specs.declared.Vec2.{Vec2}
+use Rattle.placer.specs.declared.Placer.{Placer}
+use Rattle.records.specs.Records.{recordOf, rest}
+use Rattle.sheet.specs.declared.Moved.{Moved}
+use Rattle.sheet.specs.declared.Run.{Run}
+use Rattle.sheet.specs.Sheets.{inTicks}
+use Rattle.sheet.specs.Slices.{edges}
+use Rattle.sheet.specs.Calls.{recordMoved}
+
+abbrev pub eightOf : Rect → Rect → List ℤ
+eightOf frame widget = edges (inTicks 5 frame) ++ edges (inTicks 5 widget)
+
+unfoldable pub putAt : List ℤ → ℕ → ℕ → Rect → Rect → List ℤ
+putAt out w placed frame widget = cond (ltb placed 1) out (sets out (8 * w) (eightOf frame widget))
+
+pub record Walk : Type 0 where
+  pub run : Run
+  pub slice : List ℤ
+
+abbrev pub pick : Bool → Walk → Walk → Walk
+pick true a b = a
+pick false a b = b
+
+abbrev pub done : Placer → List ℤ → Walk
+done p out = record { run = record { number = 0; at = 0; placer = p }; slice = out }
+
+-- record n is at the front of the text, w W came before it, and there may be so many records more
+unfoldable pub walked : ℕ → Vec2 → ℕ → Placer → List ℕ → List ℤ → ℕ → Walk
+walked zero sp n p s out w = done p out
+walked (suc left) sp n p [] out w = done p out
+walked (suc left) sp n p (b ∷ s) out w =
+    let m = recordMoved p sp (recordOf (b ∷ s)) in
+    pick (eqb (m .number) 0)
+    (walked left sp (n + 1) (m .placer) (rest (b ∷ s)) (putAt out w (m .placed) (m .frame) (m .widget)) (w + m .placed))
+    (record { run = record { number = m .number; at = n; placer = m .placer }; slice = out })

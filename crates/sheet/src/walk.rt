@@ -1,0 +1,63 @@
+// The records of a text one after the other.
+use crate::Run;
+use crate::cells::put;
+use crate::steps::record_moved;
+use emath::Vec2;
+use placer::Placer;
+use records::records::next_record;
+use records::records::read_record;
+ghost use mathlib.Core.Path.{_≡_};
+ghost use Prim.Native.Nat.{_+_, _*_, _≤_};
+ghost use lib.ListN.{length, drop};
+ghost use Rattle.records.specs.Sheets.{recordsFrom, widgets};
+ghost use Rattle.sheet.specs.Walks.{walked};
+
+// From the place `from`, where record `first` is, at most `most` records; each W's rectangles go to the slice.
+pub fn run(
+    text: &[u8],
+    from: usize,
+    first: usize,
+    most: usize,
+    placer: Placer,
+    spacing: Vec2,
+    out: &mut [i32],
+) -> Run
+    requires { ⌜ (from ≤ length (now text)) × (first + most ≤ 600) ⌝ }
+    requires { ⌜ 8 * widgets (recordsFrom most (drop from (now text))) ≤ length (now out) ⌝ }
+    ensures { λ r. ⌜ (r ≡ walked most spacing first placer (drop from (now (text .entry))) (now (out .entry)) 0 .run) × (now (out .exit) ≡ walked most spacing first placer (drop from (now (text .entry))) (now (out .entry)) 0 .slice) ⌝ }
+{
+    let mut p = placer;
+    let mut at = from;
+    let mut n = first;
+    let mut w: usize = 0;
+    let mut left = most;
+    while 0 < left {
+        if text.len() <= at {
+            return Run {
+                number: 0,
+                at: 0,
+                placer: p,
+            };
+        }
+        let m = record_moved(p, spacing, read_record(text, at));
+        let number = m.number;
+        let q = m.placer;
+        if number != 0 {
+            return Run {
+                number,
+                at: n,
+                placer: q,
+            };
+        }
+        w = put(out, w, m.placed, m.frame, m.widget);
+        p = q;
+        at = next_record(text, at);
+        n += 1;
+        left -= 1;
+    }
+    Run {
+        number: 0,
+        at: 0,
+        placer: p,
+    }
+}

@@ -36,5 +36,6 @@ pub mod PriceClause
 pub mod Slices
 pub mod Ticking
 pub mod Walking
+pub mod WalkedRuns
 pub mod CaseTests
 pub mod Computed

@@ -5,6 +5,7 @@ pub mod Sheets
 pub mod Slices
 pub mod Calls
 pub mod Walks
+pub mod Passing
 pub mod Columns
 pub mod Tops
 pub mod PriceClause

@@ -1,10 +1,12 @@
 // A sheet's pass: the rules in specs/, the call that runs them, and what is proved of them.
 use emath::Rect;
+use grid::Memory;
 use placer::Placer;
 
 mod cells;
-mod walk;
+pub mod passing;
 mod steps;
+mod walk;
 
 // What a record gives: its number (0: none), the placer after it, the given one where it is refused; how many W it is, 1 or 0, and a W's
 // rectangles.
@@ -21,4 +23,18 @@ pub struct Run {
     pub number: u8,
     pub at: usize,
     pub placer: Placer,
+}
+
+// Whether a pass is accepted, or the number of document 01's table and the record, from 1.
+pub enum Laid {
+    Accepted,
+    Refused(u8, usize),
+}
+
+// What a pass gives: the plate is all zero where it is refused, the memory then the one given.
+pub struct Passed {
+    pub laid: Laid,
+    pub plate: Rect,
+    pub memory: Memory,
+    pub save: bool,
 }

@@ -1,0 +1,181 @@
+// One pass over a sheet's text, with a memory or none, and a lent slice for the rectangles.
+use crate::Laid;
+use crate::Passed;
+use crate::Run;
+use crate::walk::run;
+use emath::Rect;
+use emath::Vec2;
+use emath::faults::or_else;
+use grid::GridLayout;
+use grid::Memory;
+use placer::Placer;
+use placer::PlacerAnswer;
+use placer::rules::save_grid;
+use records::Checked;
+use records::GridOptions;
+use records::Heading;
+use records::Record;
+use records::records::next_record;
+use records::records::read_record;
+use records::sheets::check;
+ghost use mathlib.Core.Path.{_≡_};
+ghost use mathlib.Core.List.{[]};
+ghost use Prim.Native.Nat.{_+_, _*_, _≤_};
+ghost use lib.ListN.{length, drop};
+ghost use Rattle.records.specs.Records.{nextAt};
+ghost use Rattle.records.specs.Sheets.{recordsFrom, widgets, checked};
+ghost use Rattle.sheet.specs.Pass.{refusedAt, outcomeOf, gridded as griddedBy};
+ghost use Rattle.sheet.specs.Passing.{laidOf, passedOf, ranOf, goneOn, plainOn, gridOn, fromHeading, passIn};
+
+fn laid_of(number: u8, at: usize) -> Laid
+    ensures { λ r. ⌜ r ≡ laidOf number at ⌝ }
+{
+    if number == 0 {
+        Laid::Accepted
+    } else {
+        Laid::Refused(number, at)
+    }
+}
+
+fn refused(number: u8, at: usize, memory: Memory) -> Passed
+    ensures { λ r. ⌜ r ≡ passedOf (refusedAt number at [] memory) ⌝ }
+{
+    let laid = laid_of(number, at);
+    let plate = Rect {
+        left: 0.0,
+        top: 0.0,
+        right: 0.0,
+        bottom: 0.0,
+    };
+    Passed {
+        laid,
+        plate,
+        memory,
+        save: false,
+    }
+}
+
+// The run's end: the plate is min_rect, and a grid gives its memory.
+fn finish(grid: bool, memory: Memory, r: Run) -> Passed
+    ensures { λ p. ⌜ p ≡ passedOf (outcomeOf grid memory (ranOf r)) ⌝ }
+{
+    let number = r.number;
+    if number != 0 {
+        return refused(number, r.at, memory);
+    }
+    let p = r.placer;
+    let region = p.region;
+    let plate = region.min_rect;
+    let laid = Laid::Accepted;
+    if grid {
+        let saved = save_grid(p);
+        let kept = saved.memory;
+        return Passed {
+            laid,
+            plate,
+            memory: kept,
+            save: saved.save,
+        };
+    }
+    Passed {
+        laid,
+        plate,
+        memory,
+        save: false,
+    }
+}
+
+// G: GridLayout's `new` with the given memory, then `set_grid`.
+fn gridded(
+    heading: Heading,
+    options: GridOptions,
+    known: bool,
+    memory: Memory,
+    sizing: bool,
+    placer: Placer,
+) -> PlacerAnswer
+    ensures { λ a. ⌜ a ≡ griddedBy heading options known memory sizing placer ⌝ }
+{
+    let layout = heading.layout;
+    let main_dir = layout.main_dir;
+    let region = placer.region;
+    let a = GridLayout::new(
+        main_dir,
+        region,
+        known,
+        memory,
+        sizing,
+        heading.spacing,
+        options.min_cell_size,
+        options.max_cell_size,
+        options.num_columns,
+        options.start_row,
+    );
+    let g = a.grid;
+    let b = placer.set_grid(g);
+    let p = b.placer;
+    PlacerAnswer {
+        number: or_else(a.number, b.number),
+        placer: p,
+    }
+}
+
+// Record n gave a placer: the records from `from` on, or n's refusal.
+fn go_on(
+    a: PlacerAnswer,
+    n: usize,
+    text: &[u8],
+    from: usize,
+    first: usize,
+    most: usize,
+    spacing: Vec2,
+    grid: bool,
+    memory: Memory,
+    out: &mut [i32],
+) -> Passed
+    requires { ⌜ (from ≤ length (now text)) × (first + most ≤ 600) ⌝ }
+    requires { ⌜ 8 * widgets (recordsFrom most (drop from (now text))) ≤ length (now out) ⌝ }
+    ensures { λ r. ⌜ (r ≡ goneOn a n (drop from (now (text .entry))) first most spacing grid memory (now (out .entry)) .passed) × (now (out .exit) ≡ goneOn a n (drop from (now (text .entry))) first most spacing grid memory (now (out .entry)) .slice) ⌝ }
+{
+    let number = a.number;
+    if number != 0 {
+        return refused(number, n, memory);
+    }
+    let p = a.placer;
+    finish(grid, memory, run(text, from, first, most, p, spacing, out))
+}
+
+// Without G: the steps from the second record on.
+fn plain(
+    heading: Heading,
+    placer: Placer,
+    text: &[u8],
+    memory: Memory,
+    out: &mut [i32],
+) -> Passed
+    requires { ⌜ 8 * widgets (recordsFrom 511 (drop (nextAt (now text) 0) (now text))) ≤ length (now out) ⌝ }
+    ensures { λ r. ⌜ (r ≡ plainOn (now (text .entry)) heading placer memory (now (out .entry)) .passed) × (now (out .exit) ≡ plainOn (now (text .entry)) heading placer memory (now (out .entry)) .slice) ⌝ }
+{
+    let at = next_record(text, 0);
+    let a = PlacerAnswer { number: 0, placer };
+    go_on(a, 1, text, at, 2, 511, heading.spacing, false, memory, out)
+}
+
+// With G: the steps from the third record on.
+fn with_grid(
+    heading: Heading,
+    options: GridOptions,
+    placer: Placer,
+    text: &[u8],
+    known: bool,
+    memory: Memory,
+    sizing: bool,
+    out: &mut [i32],
+) -> Passed
+    requires { ⌜ 8 * widgets (recordsFrom 510 (drop (nextAt (now text) (nextAt (now text) 0)) (now text))) ≤ length (now out) ⌝ }
+    ensures { λ r. ⌜ (r ≡ gridOn (now (text .entry)) heading options placer known memory sizing (now (out .entry)) .passed) × (now (out .exit) ≡ gridOn (now (text .entry)) heading options placer known memory sizing (now (out .entry)) .slice) ⌝ }
+{
+    let at = next_record(text, next_record(text, 0));
+    let a = gridded(heading, options, known, memory, sizing, placer);
+    go_on(a, 2, text, at, 3, 510, heading.spacing, true, memory, out)
+}

@@ -1,19 +1,23 @@
 -- What a pass leaves in a lent slice: eight places for each W before the fault, all of them there, and every other place as it was.
 -- Assumes nothing.
-use Prim.Native.Nat.{ℕ, zero, suc, _+_, _*_, _≤_, _<_}
+use Prim.Native.Nat.{ℕ, zero, suc, _+_, _-_, _*_, _≤_, _<_}
 use mathlib.Core.Path.{_≡_, refl, ap, sym, _∙_, subst}
 use mathlib.Core.Bool.{Bool, true, false, cond}
 use mathlib.Core.List.{List, [], _∷_, _++_}
 use native.Mathlib.Omega.{arith}
 use lib.IntN.{ℤ}
 use lib.Dec.{eqb, ltb}
-use borrow.Author.Tests.{ltb-false}
-use lib.ListN.{length, take, drop, length-append}
-use lib.Seq.{sets, sets-eq}
+use borrow.Author.Tests.{ltb-true, ltb-false}
+use lib.ListN.{length, take, drop, length-append, drop-of-length-le}
+use lib.Seq.{sets, sets-eq, drop-nil}
 use Rattle.emath.specs.declared.Vec2.{Vec2}
 use Rattle.grid.specs.declared.Memory.{Memory}
 use Rattle.placer.specs.declared.Placer.{Placer}
-use Rattle.records.specs.Sheets.{records, after, misplaced, widgets, widget, widgetStep, isEmpty, pick, sized, checked}
+use Rattle.records.specs.Records.{recordAt, size, rest, nextAt}
+use Rattle.records.proofs.Places.{next-is-rest}
+use Rattle.records.proofs.Reached.{records-step}
+use Rattle.sheet.specs.Passing.{Room}
+use Rattle.records.specs.Sheets.{recordsFrom, records, after, misplaced, widgets, widget, widgetStep, isEmpty, pick, sized, checked}
 use Rattle.records.specs.declared.Checked.{Checked}
 use Rattle.records.specs.declared.Checked.the-variants.{Accepted, Refused}
 use Rattle.records.specs.declared.Heading.{Heading}
@@ -133,6 +137,35 @@ room-there text room r w h = go (isEmpty text) (ltb 0 (misplaced 1 (records text
     go false false false d e h = let o : _≡_ {A = ℕ} 0 1 = cc in absurd (omega arith)
     go false false true true e h = let o : _≡_ {A = ℕ} 0 1 = cc in absurd (omega arith)
     go false false true false e h = ltb-false room (8 * widgets (records text)) e
+
+one-more : (r : Record) (rs : List Record) → widgets (r ∷ rs) ≡ widget r + widgets rs
+unfolding widgets
+one-more r rs = refl
+
+no-records : (left : ℕ) → widgets (recordsFrom left []) ≡ 0
+unfolding recordsFrom widgets
+no-records zero = refl
+no-records (suc left) = refl
+
+-- so it has for those after H, and after G
+fewer-after : (left : ℕ) (text : List ℕ) (at : ℕ) → 0 < left → widgets (recordsFrom (left - 1) (drop (nextAt text at) text)) ≤ widgets (recordsFrom left (drop at text))
+fewer-after left text at more = go (ltb at (length text)) refl
+  where
+    go : (b : Bool) → ltb at (length text) ≡ b → widgets (recordsFrom (left - 1) (drop (nextAt text at) text)) ≤ widgets (recordsFrom left (drop at text))
+    go true e = omega (arith, ap (λ (rs : List Record). widgets rs) (records-step left text at more (ltb-true at (length text) e)) ∙ one-more (recordAt text at) (recordsFrom (left - 1) (drop (nextAt text at) text)))
+    go false e =
+        let l : length text ≤ at = ltb-false at (length text) e in
+        let d : drop at text ≡ [] = drop-of-length-le text l in
+        let f : drop (nextAt text at) text ≡ [] = next-is-rest text at ∙ ap (λ (u : List ℕ). rest u) d ∙ drop-nil (size []) in
+        let z : widgets (recordsFrom (left - 1) (drop (nextAt text at) text)) ≡ 0 = ap (λ (u : List ℕ). widgets (recordsFrom (left - 1) u)) f ∙ no-records (left - 1) in
+        omega (arith, z)
+
+pub room-after : (text : List ℕ) (room r w : ℕ) → checked text room ≡ Accepted r w → Room text room
+room-after text room r w e =
+    let h = room-there text room r w e in
+    let a = fewer-after 512 text 0 (omega arith) in
+    let b = fewer-after 511 text (nextAt text 0) (omega arith) in
+    record { plain = omega (arith, h, a); grid = omega (arith, h, a, b) }
 
 -- ---- the slice
 module _ (text : List ℕ) (known : Bool) (m : Memory) (sizing : Bool) (out : List ℤ) where

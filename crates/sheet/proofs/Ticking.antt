@@ -33,7 +33,7 @@ counted-in-ticks x e =
 -- eight numbers one after the other
 pub eight-put : (out : List ℤ) (at : ℕ) (a b c d e f g h : ℤ)
     → set (set (set (set (set (set (set (set out at a) (at + 1) b) (at + 2) c) (at + 3) d) (at + 4) e) (at + 5) f) (at + 6) g) (at + 7) h
-      ≡ sets out at (a ∷ b ∷ c ∷ d ∷ e ∷ f ∷ g ∷ h ∷ [])
+    ≡ sets out at (a ∷ b ∷ c ∷ d ∷ e ∷ f ∷ g ∷ h ∷ [])
 eight-put out at a b c d e f g h =
     let p1 : at + 1 ≡ suc at = omega arith in
     let p2 : at + 2 ≡ suc (suc at) = omega arith in

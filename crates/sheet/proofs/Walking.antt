@@ -88,9 +88,9 @@ at-most-one record-of.Wrong = omega arith
 -- ---- one turn
 front : (left : ℕ) (sp : Vec2) (n : ℕ) (p : Placer) (u : List ℕ) (out : List ℤ) (w : ℕ) → 0 < left → 0 < length u
     → walked left sp n p u out w
-      ≡ pick (eqb (recordMoved p sp (recordOf u) .number) 0)
-        (walked (left - 1) sp (n + 1) (recordMoved p sp (recordOf u) .placer) (rest u) (putAt out w (recordMoved p sp (recordOf u) .placed) (recordMoved p sp (recordOf u) .frame) (recordMoved p sp (recordOf u) .widget)) (w + recordMoved p sp (recordOf u) .placed))
-        (record { run = record { number = recordMoved p sp (recordOf u) .number; at = n; placer = recordMoved p sp (recordOf u) .placer }; slice = out })
+    ≡ pick (eqb (recordMoved p sp (recordOf u) .number) 0)
+    (walked (left - 1) sp (n + 1) (recordMoved p sp (recordOf u) .placer) (rest u) (putAt out w (recordMoved p sp (recordOf u) .placed) (recordMoved p sp (recordOf u) .frame) (recordMoved p sp (recordOf u) .widget)) (w + recordMoved p sp (recordOf u) .placed))
+    (record { run = record { number = recordMoved p sp (recordOf u) .number; at = n; placer = recordMoved p sp (recordOf u) .placer }; slice = out })
 unfolding walked
 front zero sp n p u out w h l = absurd (omega arith)
 front (suc left) sp n p [] out w h l = absurd (omega arith)

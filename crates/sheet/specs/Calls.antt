@@ -30,7 +30,8 @@ placement p sp s = record {
   placer = widgetStep sp p s (cellOf 5 sp p s) .placer;
   placed = 1;
   frame = cellOf 5 sp p s .frame;
-  widget = cellOf 5 sp p s .widget }
+  widget = cellOf 5 sp p s .widget;
+}
 
 abbrev pub calledBy : PlacerAnswer → Moved
 calledBy a = record { number = a .number; placer = a .placer; placed = 0; frame = zeroRect; widget = zeroRect }

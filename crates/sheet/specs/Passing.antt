@@ -1,5 +1,5 @@
 -- A pass over a text as the code walks it.
-use Prim.Native.Nat.{ℕ}
+use Prim.Native.Nat.{ℕ, _*_, _≤_}
 use mathlib.Core.Bool.{Bool, true, false, cond}
 use mathlib.Core.List.{List, []}
 use lib.IntN.{ℤ}
@@ -10,7 +10,7 @@ use Rattle.grid.specs.declared.Memory.{Memory}
 use Rattle.placer.specs.declared.Placer.{Placer}
 use Rattle.placer.specs.declared.PlacerAnswer.{PlacerAnswer}
 use Rattle.records.specs.Records.{recordAt, nextAt}
-use Rattle.records.specs.Sheets.{checked}
+use Rattle.records.specs.Sheets.{recordsFrom, widgets, checked}
 use Rattle.records.specs.declared.Heading.{Heading}
 use Rattle.records.specs.declared.GridOptions.{GridOptions}
 use Rattle.records.specs.declared.Record.{Record}
@@ -23,6 +23,11 @@ use Rattle.sheet.specs.declared.Passed.{Passed}
 use Rattle.sheet.specs.declared.Run.{Run}
 use Rattle.sheet.specs.Pass.{Outcome, Ran, refusedAt, outcomeOf, headed, gridded}
 use Rattle.sheet.specs.Walks.{Walk, walked}
+
+-- the slice has room for the W after H, and after G
+pub record Room (text : List ℕ) (room : ℕ) : Type 0 where
+  pub plain : 8 * widgets (recordsFrom 511 (drop (nextAt text 0) text)) ≤ room
+  pub grid : 8 * widgets (recordsFrom 510 (drop (nextAt text (nextAt text 0)) text)) ≤ room
 
 -- an outcome as the call answers it: the rectangles stand in the slice
 unfoldable pub laidOf : ℕ → ℕ → Laid

@@ -25,7 +25,7 @@ ghost use lib.ListN.{length, drop};
 ghost use Rattle.records.specs.Records.{nextAt};
 ghost use Rattle.records.specs.Sheets.{recordsFrom, widgets, checked};
 ghost use Rattle.sheet.specs.Pass.{refusedAt, outcomeOf, gridded as griddedBy};
-ghost use Rattle.sheet.specs.Passing.{laidOf, passedOf, ranOf, goneOn, plainOn, gridOn, fromHeading, passIn};
+ghost use Rattle.sheet.specs.Passing.{laidOf, passedOf, ranOf, Room, goneOn, plainOn, gridOn, afterHead, fromHeading, fromRecord, passIn};
 
 fn laid_of(number: u8, at: usize) -> Laid
     ensures { λ r. ⌜ r ≡ laidOf number at ⌝ }
@@ -146,13 +146,7 @@ fn go_on(
 }
 
 // Without G: the steps from the second record on.
-fn plain(
-    heading: Heading,
-    placer: Placer,
-    text: &[u8],
-    memory: Memory,
-    out: &mut [i32],
-) -> Passed
+fn plain(heading: Heading, placer: Placer, text: &[u8], memory: Memory, out: &mut [i32]) -> Passed
     requires { ⌜ 8 * widgets (recordsFrom 511 (drop (nextAt (now text) 0) (now text))) ≤ length (now out) ⌝ }
     ensures { λ r. ⌜ (r ≡ plainOn (now (text .entry)) heading placer memory (now (out .entry)) .passed) × (now (out .exit) ≡ plainOn (now (text .entry)) heading placer memory (now (out .entry)) .slice) ⌝ }
 {
@@ -178,4 +172,85 @@ fn with_grid(
     let at = next_record(text, next_record(text, 0));
     let a = gridded(heading, options, known, memory, sizing, placer);
     go_on(a, 2, text, at, 3, 510, heading.spacing, true, memory, out)
+}
+
+// The second record is a G, or the first of the steps.
+fn after_head(
+    r: Record,
+    heading: Heading,
+    placer: Placer,
+    text: &[u8],
+    known: bool,
+    memory: Memory,
+    sizing: bool,
+    out: &mut [i32],
+) -> Passed
+    requires { ⌜ Room (now text) (length (now out)) ⌝ }
+    ensures { λ p. ⌜ (p ≡ afterHead r (now (text .entry)) heading placer known memory sizing (now (out .entry)) .passed) × (now (out .exit) ≡ afterHead r (now (text .entry)) heading placer known memory sizing (now (out .entry)) .slice) ⌝ }
+{
+    match r {
+        Record::Heading(_) => plain(heading, placer, text, memory, out),
+        Record::Grid(options) => {
+            with_grid(heading, options, placer, text, known, memory, sizing, out)
+        }
+        Record::Step(_) => plain(heading, placer, text, memory, out),
+        Record::Wrong => plain(heading, placer, text, memory, out),
+    }
+}
+
+// H: Placer's `new`.
+fn from_heading(
+    heading: Heading,
+    text: &[u8],
+    known: bool,
+    memory: Memory,
+    sizing: bool,
+    out: &mut [i32],
+) -> Passed
+    requires { ⌜ Room (now text) (length (now out)) ⌝ }
+    ensures { λ p. ⌜ (p ≡ fromHeading (now (text .entry)) heading known memory sizing (now (out .entry)) .passed) × (now (out .exit) ≡ fromHeading (now (text .entry)) heading known memory sizing (now (out .entry)) .slice) ⌝ }
+{
+    let layout = heading.layout;
+    let a = Placer::new(heading.max_rect, layout);
+    let number = a.number;
+    if number != 0 {
+        return refused(number, 1, memory);
+    }
+    let p = a.placer;
+    let r = read_record(text, next_record(text, 0));
+    after_head(r, heading, p, text, known, memory, sizing, out)
+}
+
+// A sheet that was checked begins with H.
+fn from_record(
+    r: Record,
+    text: &[u8],
+    known: bool,
+    memory: Memory,
+    sizing: bool,
+    out: &mut [i32],
+) -> Passed
+    requires { ⌜ Room (now text) (length (now out)) ⌝ }
+    ensures { λ p. ⌜ (p ≡ fromRecord r (now (text .entry)) known memory sizing (now (out .entry)) .passed) × (now (out .exit) ≡ fromRecord r (now (text .entry)) known memory sizing (now (out .entry)) .slice) ⌝ }
+{
+    match r {
+        Record::Heading(heading) => from_heading(heading, text, known, memory, sizing, out),
+        Record::Grid(_) => refused(1, 1, memory),
+        Record::Step(_) => refused(1, 1, memory),
+        Record::Wrong => refused(1, 1, memory),
+    }
+}
+
+// One pass over the text, with the memory (where it is known) and sizing or not. After 1 to 3 the slice is untouched; later the W before the
+// fault have their eight places, and every other place holds what it held.
+pub fn pass(text: &[u8], known: bool, memory: Memory, sizing: bool, out: &mut [i32]) -> Passed
+    ensures { λ p. ⌜ (p ≡ passIn (now (text .entry)) known memory sizing (now (out .entry)) .passed) × (now (out .exit) ≡ passIn (now (text .entry)) known memory sizing (now (out .entry)) .slice) ⌝ }
+{
+    let room = out.len();
+    match check(text, room) {
+        Checked::Accepted(_, _) => {
+            from_record(read_record(text, 0), text, known, memory, sizing, out)
+        }
+        Checked::Refused(number, at) => refused(number, at, memory),
+    }
 }

@@ -61,9 +61,10 @@ put-requires c κs =
     let l = c .before .before .before .before .before .before .before .loop in
     let a = c .before .before .before .before .before .before .before .before .before .args in
     let em = c .before .before .before .record-moved .ensures ∙ ap (λ (x : Record). recordMoved (l .p) (a .spacing) x) (c .before .before .before .before .read-record .ensures) in
-    let r = room-left (a .text .now) (a .spacing) (l .left) (l .n) (l .at) (l .w) (l .p) (l .out) _ (l .inv .4) (c .before .before .before .before .before .before .loop-test .taken) (c .before .before .before .before .before .if1 .left) _ em (l .inv .3) in
-    ((omega (arith, r), moved-few (a .text .now) (a .spacing) (l .left) (l .n) (l .at) (l .w) (l .p) (l .out) _ (l .inv .4) (c .before .before .before .before .before .before .loop-test .taken) (c .before .before .before .before .before .if1 .left) _ em),
-     moved-in-ticks (a .text .now) (a .spacing) (l .left) (l .n) (l .at) (l .w) (l .p) (l .out) _ (l .inv .4) (c .before .before .before .before .before .before .loop-test .taken) (c .before .before .before .before .before .if1 .left) _ em (c .before .if2 .left))
+    let r = room-left (a .text .now) (a .spacing) (l .left) (l .n) (l .at) (l .w) (l .p) (l .out) _ (l .inv .4) (c .before .before .before .before .before .before .loop-test .taken) (c .before .before .before .before .before .if1 .left) _ em (l .inv .3) in (
+      (omega (arith, r), moved-few (a .text .now) (a .spacing) (l .left) (l .n) (l .at) (l .w) (l .p) (l .out) _ (l .inv .4) (c .before .before .before .before .before .before .loop-test .taken) (c .before .before .before .before .before .if1 .left) _ em),
+      moved-in-ticks (a .text .now) (a .spacing) (l .left) (l .n) (l .at) (l .w) (l .p) (l .out) _ (l .inv .4) (c .before .before .before .before .before .before .loop-test .taken) (c .before .before .before .before .before .if1 .left) _ em (c .before .if2 .left),
+    )
 
 next-record-requires : tie.Need-next-record-requires Inv-loop μ-loop
 next-record-requires c κs = search needs

@@ -1,0 +1,54 @@
+use borrow.Author.Tests.{eq-eqb, ne-eqb}
+use Rattle.placer.specs.Operations.{checkedNew}
+use Rattle.sheet.specs.Pass.{headed}
+use Rattle.sheet.specs.Passing.{fromHeading}
+use mathlib.Core.Path.{refl}
+use borrow.Author.Needs.{needs}
+use Rattle.sheet.proofs.passing.from_heading.Statement.{statement}
+use Rattle.sheet.proofs.passing.from_heading.Tie as tie
+use Rattle.sheet.proofs.passing.from_heading.Reads as reads
+use Rattle.sheet.proofs.passing.from_heading.Lts as lts
+use Rattle.placer.proofs.Placer.new.Reads as new-reads
+use Rattle.records.proofs.records.next_record.Reads as next-record-reads
+use Rattle.records.proofs.records.read_record.Reads as read-record-reads
+use Rattle.sheet.proofs.passing.after_head.Reads as after-head-reads
+use Rattle.sheet.proofs.passing.refused.Reads as refused-reads
+
+new-requires : tie.Need-new-requires
+new-requires c κs = search needs
+
+refused-requires : tie.Need-refused-requires
+refused-requires c κs = search needs
+
+returns : tie.Need-returns
+unfolding fromHeading headed checkedNew
+returns c = rw (c .refused .ensures, ← c .before .before .new .ensures, ne-eqb _ _ (c .before .if1 .taken)) (refl, refl)
+
+next-record-requires : tie.Need-next-record-requires
+next-record-requires c κs = search needs
+
+read-record-requires : tie.Need-read-record-requires
+read-record-requires c κs = search needs
+
+after-head-requires : tie.Need-after-head-requires
+after-head-requires c κs = search needs
+
+same-length : tie.Need-same-length
+same-length c = search needs
+
+returns-2 : tie.Need-returns-2
+unfolding fromHeading headed checkedNew
+returns-2 c = rw (← c .before .before .before .before .before .before .before .new .ensures, eq-eqb _ _ (c .before .before .before .before .before .before .if1 .left), ← c .before .before .before .before .next-record .ensures, ← c .before .before .before .read-record .ensures) (c .before .after-head .ensures)
+
+pub from-heading-spec : {M : Type 1} → statement M
+from-heading-spec =
+    tie.close
+    (tie.spec
+    new-requires
+    refused-requires
+    returns
+    next-record-requires
+    read-record-requires
+    after-head-requires
+    same-length
+    returns-2)

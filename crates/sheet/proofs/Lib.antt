@@ -37,5 +37,6 @@ pub mod Slices
 pub mod Ticking
 pub mod Walking
 pub mod WalkedRuns
+pub mod WalkedPasses
 pub mod CaseTests
 pub mod Computed

@@ -28,6 +28,7 @@ use Rattle.sheet.specs.Pass.{Sheet, Outcome, Ran, called, followed, runF
 use Rattle.sheet.specs.Texts.{stepsOf, noOptions, afterHeading, sheetOf, sheetIn}
 use Rattle.sheet.specs.Slices.{written, Laid, judged, laid}
 use Rattle.sheet.specs.Walks.{Walk, walked}
+use Rattle.sheet.specs.declared.Passed.{Passed}
 use Rattle.sheet.specs.Passing as passing
 use Rattle.sheet.specs.Passing.{laidOf, passedOf, ranOf, Answer, turnedBack, goneOn, plainOn, gridOn, afterHead, fromHeading, fromRecord, fromCheck, passIn}
 use Rattle.sheet.proofs.WalkedRuns.{OnlySteps, none, more, walkOf, walked-is-run}
@@ -209,3 +210,10 @@ walked-is-laid text known m sizing out = go (checked text (length out)) refl
     go : (c : Checked) → checked text (length out) ≡ c → fromCheck c text known m sizing out ≡ laidAnswer (judged c text known m sizing out)
     go (Refused n at) e = refl
     go (Accepted r w) e = let f = no-fault text (length out) r w e in from-accepted text known m sizing out (f .some) (f .well)
+
+pub as-laid : (text : List ℕ) (known : Bool) (m : Memory) (sizing : Bool) (out : List ℤ) (p : Passed) (now : List ℤ)
+    → (p ≡ passIn text known m sizing out .passed) × (now ≡ passIn text known m sizing out .slice)
+    → (p ≡ passedOf (laid text known m sizing out .outcome)) × (now ≡ laid text known m sizing out .slice)
+as-laid text known m sizing out p now (e, f) =
+    let w = walked-is-laid text known m sizing out in
+    (e ∙ ap (λ (a : Answer). a .passed) w, f ∙ ap (λ (a : Answer). a .slice) w)

@@ -25,7 +25,8 @@ ghost use lib.ListN.{length, drop};
 ghost use Rattle.records.specs.Records.{nextAt};
 ghost use Rattle.records.specs.Sheets.{recordsFrom, widgets, checked};
 ghost use Rattle.sheet.specs.Pass.{refusedAt, outcomeOf, gridded as griddedBy};
-ghost use Rattle.sheet.specs.Passing.{laidOf, passedOf, ranOf, Room, goneOn, plainOn, gridOn, afterHead, fromHeading, fromRecord, passIn};
+ghost use Rattle.sheet.specs.Passing.{laidOf, passedOf, ranOf, Room, goneOn, plainOn, gridOn, afterHead, fromHeading, fromRecord};
+ghost use Rattle.sheet.specs.Slices.{laid};
 
 fn laid_of(number: u8, at: usize) -> Laid
     ensures { λ r. ⌜ r ≡ laidOf number at ⌝ }
@@ -244,7 +245,7 @@ fn from_record(
 // One pass over the text, with the memory (where it is known) and sizing or not. After 1 to 3 the slice is untouched; later the W before the
 // fault have their eight places, and every other place holds what it held.
 pub fn pass(text: &[u8], known: bool, memory: Memory, sizing: bool, out: &mut [i32]) -> Passed
-    ensures { λ p. ⌜ (p ≡ passIn (now (text .entry)) known memory sizing (now (out .entry)) .passed) × (now (out .exit) ≡ passIn (now (text .entry)) known memory sizing (now (out .entry)) .slice) ⌝ }
+    ensures { λ p. ⌜ (p ≡ passedOf (laid (now (text .entry)) known memory sizing (now (out .entry)) .outcome)) × (now (out .exit) ≡ laid (now (text .entry)) known memory sizing (now (out .entry)) .slice) ⌝ }
 {
     let room = out.len();
     match check(text, room) {

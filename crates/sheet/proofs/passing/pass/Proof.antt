@@ -1,5 +1,6 @@
 use mathlib.Core.Path.{sym, _∙_}
 use Rattle.sheet.proofs.Slices.{room-after}
+use Rattle.sheet.proofs.WalkedPasses.{as-laid}
 use Rattle.sheet.specs.Passing.{passIn, fromCheck}
 use mathlib.Core.Path.{refl}
 use borrow.Author.Needs.{needs}
@@ -35,11 +36,11 @@ same-length c = search needs
 
 returns : tie.Need-returns
 unfolding passIn fromCheck
-returns c = rw (← c .before .before .before .before .before .before .check .ensures, c .before .before .before .before .enum-told .given .1, ← c .before .before .before .read-record .ensures) (c .before .from-record .ensures)
+returns c = as-laid _ _ _ _ _ _ _ (rw (← c .before .before .before .before .before .before .check .ensures, c .before .before .before .before .enum-told .given .1, ← c .before .before .before .read-record .ensures) (c .before .from-record .ensures))
 
 returns-2 : tie.Need-returns-2
 unfolding passIn fromCheck
-returns-2 c = rw (← c .before .before .before .before .check .ensures, c .before .before .number .given .1, c .refused .ensures) (refl, refl)
+returns-2 c = as-laid _ _ _ _ _ _ _ (rw (← c .before .before .before .before .check .ensures, c .before .before .number .given .1, c .refused .ensures) (refl, refl))
 
 pub pass-spec : {M : Type 1} → statement M
 pass-spec =

@@ -1,7 +1,7 @@
 -- What a pass leaves in a lent slice: eight places for each W before the fault, all of them there, and every other place as it was.
 -- Assumes nothing.
 use Prim.Native.Nat.{ℕ, zero, suc, _+_, _-_, _*_, _≤_, _<_}
-use mathlib.Core.Path.{_≡_, refl, ap, sym, _∙_, subst}
+use mathlib.Core.Path.{_≡_, refl, ap, _∙_}
 use mathlib.Core.Bool.{Bool, true, false, cond}
 use mathlib.Core.List.{List, [], _∷_, _++_}
 use native.Mathlib.Omega.{arith}
@@ -9,7 +9,7 @@ use lib.IntN.{ℤ}
 use lib.Dec.{eqb, ltb}
 use borrow.Author.Tests.{ltb-true, ltb-false}
 use lib.ListN.{length, take, drop, length-append, drop-of-length-le}
-use lib.Seq.{sets, sets-eq, drop-nil}
+use lib.Seq.{sets-eq, drop-nil}
 use Rattle.emath.specs.declared.Vec2.{Vec2}
 use Rattle.grid.specs.declared.Memory.{Memory}
 use Rattle.placer.specs.declared.Placer.{Placer}
@@ -18,7 +18,6 @@ use Rattle.records.proofs.Places.{next-is-rest}
 use Rattle.records.proofs.Reached.{records-step}
 use Rattle.sheet.specs.Passing.{Room}
 use Rattle.records.specs.Sheets.{recordsFrom, records, after, misplaced, widgets, widget, widgetStep, isEmpty, pick, sized, checked}
-use Rattle.records.specs.declared.Checked.{Checked}
 use Rattle.records.specs.declared.Checked.the-variants.{Accepted, Refused}
 use Rattle.records.specs.declared.Heading.{Heading}
 use Rattle.records.specs.declared.Step.{Step}

@@ -1,6 +1,6 @@
 -- A whole tick times 32 is a whole number that an i32 holds. Assumes nothing.
 use Prim.Native.Nat.{ℕ, suc, _+_}
-use mathlib.Core.Path.{_≡_, refl, ap, sym, _∙_, subst}
+use mathlib.Core.Path.{_≡_, refl, ap, sym, _∙_}
 use native.Mathlib.Omega.{arith}
 use lib.Dec.{T}
 use lib.IntN.{ℤ}
@@ -10,7 +10,7 @@ use mathlib.Core.List.{List, [], _∷_}
 use mir.Syntax.{w32}
 use mir.Val.{toZ, ofZ}
 use lib.Ieee.{Float, binary32, ofBits, mul, inSigned, toSigned}
-use Rattle.emath.specs.Steps.{two, val, Edge}
+use Rattle.emath.specs.Steps.{two, Edge}
 use Rattle.emath.proofs.Casts.{points-to-steps, back32}
 use Rattle.emath.proofs.Sums.{edge-small}
 use Rattle.sheet.specs.Sheets.{ticks}

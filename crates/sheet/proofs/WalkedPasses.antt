@@ -1,5 +1,5 @@
 -- The pass as the code walks it over a text is the rule's: the answer is that of `laid`, and so is the slice. Assumes nothing.
-use Prim.Native.Nat.{ℕ, zero, suc, _+_, _-_, _*_, _≤_, _<_}
+use Prim.Native.Nat.{ℕ, _+_, _-_, _<_}
 use mathlib.Core.Path.{_≡_, refl, ap, sym, _∙_, subst}
 use mathlib.Core.Bool.{Bool, true, false, cond}
 use mathlib.Core.List.{List, [], _∷_, _++_}
@@ -8,29 +8,26 @@ use lib.Dec.{eqb, ltb}
 use borrow.Author.Tests.{ltb-true, ltb-false, eqb-true}
 use lib.IntN.{ℤ}
 use lib.ListN.{length, drop, drop-of-length-le}
-use lib.Seq.{sets, drop-nil}
+use lib.Seq.{sets}
 use Rattle.emath.specs.declared.Vec2.{Vec2}
 use Rattle.grid.specs.declared.Memory.{Memory}
 use Rattle.placer.specs.declared.Placer.{Placer}
 use Rattle.placer.specs.declared.PlacerAnswer.{PlacerAnswer}
-use Rattle.records.specs.Records.{singleRecord, recordOf, recordAt, size, rest, nextAt}
+use Rattle.records.specs.Records.{singleRecord, recordOf, recordAt, nextAt}
 use Rattle.records.specs.Sheets.{recordsFrom, records, after, placed, misplaced, widgets, isEmpty, pick, sized, checked}
-use Rattle.records.proofs.Places.{next-is-rest}
 use Rattle.records.proofs.Reached.{records-step}
 use Rattle.records.specs.declared.Heading.{Heading}
-use Rattle.records.specs.declared.GridOptions.{GridOptions}
 use Rattle.records.specs.declared.Step.{Step}
 use Rattle.records.specs.declared.Record.{Record}
 use Rattle.records.specs.declared.Record.the-variants as record-of
 use Rattle.records.specs.declared.Checked.{Checked}
 use Rattle.records.specs.declared.Checked.the-variants.{Accepted, Refused}
 use Rattle.sheet.specs.Pass.{Sheet, Outcome, Ran, called, followed, runFrom, headed, gridded, plateOf, remembered, refusedAt, outcomeOf, begun, ranWith, pass}
-use Rattle.sheet.specs.Texts.{stepsOf, noOptions, afterHeading, sheetOf, sheetIn}
+use Rattle.sheet.specs.Texts.{stepsOf, afterHeading, sheetOf, sheetIn}
 use Rattle.sheet.specs.Slices.{written, Laid, judged, laid}
-use Rattle.sheet.specs.Walks.{Walk, walked}
 use Rattle.sheet.specs.declared.Passed.{Passed}
 use Rattle.sheet.specs.Passing as passing
-use Rattle.sheet.specs.Passing.{laidOf, passedOf, ranOf, Answer, turnedBack, goneOn, plainOn, gridOn, afterHead, fromHeading, fromRecord, fromCheck, passIn}
+use Rattle.sheet.specs.Passing.{passedOf, ranOf, Answer, turnedBack, goneOn, plainOn, gridOn, afterHead, fromHeading, fromRecord, fromCheck, passIn}
 use Rattle.sheet.proofs.WalkedRuns.{OnlySteps, none, more, walkOf, walked-is-run}
 
 -- an outcome with its rectangles in the slice
@@ -44,9 +41,10 @@ run-answer grid m out r = go (eqb (r .number) 0)
   where
     go : (b : Bool)
         → record {
-            passed = passedOf (cond b (record { number = 0; at = 0; cells = []; plate = plateOf (r .placer); memory = remembered grid m (r .placer) .memory; save = remembered grid m (r .placer) .save }) (refusedAt (r .number) (r .at) [] m));
-            slice = sets out 0 (written (r .cells)) }
-          ≡ answerOf out (cond b (record { number = 0; at = 0; cells = r .cells; plate = plateOf (r .placer); memory = remembered grid m (r .placer) .memory; save = remembered grid m (r .placer) .save }) (refusedAt (r .number) (r .at) (r .cells) m))
+          passed = passedOf (cond b (record { number = 0; at = 0; cells = []; plate = plateOf (r .placer); memory = remembered grid m (r .placer) .memory; save = remembered grid m (r .placer) .save }) (refusedAt (r .number) (r .at) [] m));
+          slice = sets out 0 (written (r .cells));
+        }
+        ≡ answerOf out (cond b (record { number = 0; at = 0; cells = r .cells; plate = plateOf (r .placer); memory = remembered grid m (r .placer) .memory; save = remembered grid m (r .placer) .save }) (refusedAt (r .number) (r .at) (r .cells) m))
     go true = refl
     go false = refl
 
@@ -64,7 +62,7 @@ begun-answer a n grid m out later on h = go (a .number) (eqb (a .number) 0) refl
   where
     go : (x : ℕ) (b : Bool) → eqb x 0 ≡ b
         → passing.pick b on (turnedBack x n m out)
-          ≡ answerOf out (outcomeOf grid m (cond b (record { number = later .number; at = later .at; cells = [] ++ later .cells; placer = later .placer }) (record { number = x; at = n; cells = []; placer = a .placer })))
+        ≡ answerOf out (outcomeOf grid m (cond b (record { number = later .number; at = later .at; cells = [] ++ later .cells; placer = later .placer }) (record { number = x; at = n; cells = []; placer = a .placer })))
     go x true e = h
     go x false e = turned grid m out (a .placer) x n e
 

@@ -2,7 +2,6 @@
 -- are whole ticks. Assumes nothing.
 use Prim.Native.Nat.{ℕ, zero, suc, _+_, _-_, _*_, _≤_, _<_}
 use mathlib.Core.Path.{_≡_, refl, ap, sym, _∙_, subst}
-use mathlib.Core.Bool.{Bool, true, false}
 use mathlib.Core.List.{List, [], _∷_}
 use native.Mathlib.Omega.{arith}
 use lib.Dec.{eqb}
@@ -25,7 +24,7 @@ use Rattle.sheet.specs.Pass.{cellOf}
 use Rattle.sheet.specs.Calls.{placement, stepMoved, recordMoved}
 use Rattle.sheet.specs.Walks.{putAt, Walk, pick, done, walked}
 use Rattle.sheet.proofs.Runs.{widget-placed}
-use Rattle.sheet.proofs.WholeEdges.{WholeCell, cell-whole}
+use Rattle.sheet.proofs.WholeEdges.{cell-whole}
 
 -- ---- a record that is a W, and no other, has a place
 step-placed : (p : Placer) (sp : Vec2) (st : Step) → stepMoved p sp st .placed ≡ widgetStep st

@@ -22,7 +22,7 @@ use Rattle.sheet.specs.declared.Laid.the-variants.{Accepted, Refused}
 use Rattle.sheet.specs.declared.Passed.{Passed}
 use Rattle.sheet.specs.declared.Run.{Run}
 use Rattle.sheet.specs.Pass.{Outcome, Ran, refusedAt, outcomeOf, headed, gridded}
-use Rattle.sheet.specs.Walks.{Walk, walked}
+use Rattle.sheet.specs.Walks.{walked}
 
 -- the slice has room for the W after H, and after G
 pub record Room (text : List ℕ) (room : ℕ) : Type 0 where

@@ -5,7 +5,6 @@ use mathlib.Core.List.{List, [], _∷_, _++_}
 use lib.IntN.{ℤ}
 use lib.ListN.{length}
 use lib.Seq.{sets}
-use Rattle.emath.specs.declared.Rect.{Rect}
 use Rattle.grid.specs.declared.Memory.{Memory}
 use Rattle.records.specs.Sheets.{checked}
 use Rattle.records.specs.declared.Checked.{Checked}

@@ -9,7 +9,6 @@ use Rattle.emath.specs.declared.Rect.{Rect}
 use Rattle.emath.specs.declared.Vec2.{Vec2}
 use Rattle.placer.specs.declared.Placer.{Placer}
 use Rattle.records.specs.Records.{recordOf, rest}
-use Rattle.sheet.specs.declared.Moved.{Moved}
 use Rattle.sheet.specs.declared.Run.{Run}
 use Rattle.sheet.specs.Sheets.{inTicks}
 use Rattle.sheet.specs.Slices.{edges}

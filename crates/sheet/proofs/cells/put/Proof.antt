@@ -4,9 +4,6 @@ use Rattle.sheet.specs.Walks.{putAt}
 use borrow.Author.Needs.{needs}
 use Rattle.sheet.proofs.cells.put.Statement.{statement}
 use Rattle.sheet.proofs.cells.put.Tie as tie
-use Rattle.sheet.proofs.cells.put.Reads as reads
-use Rattle.sheet.proofs.cells.put.Lts as lts
-use Rattle.sheet.proofs.cells.write_cell.Reads as write-cell-reads
 
 returns : tie.Need-returns
 unfolding putAt

@@ -1,5 +1,4 @@
 use Rattle.sheet.proofs.Ticking.{casts, counted-in-ticks}
-use borrow.Author.Needs.{needs}
 use Rattle.sheet.proofs.cells.tick.Statement.{statement}
 use Rattle.sheet.proofs.cells.tick.Tie as tie
 

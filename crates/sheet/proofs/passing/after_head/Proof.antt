@@ -1,12 +1,7 @@
 use Rattle.sheet.specs.Passing.{afterHead}
-use mathlib.Core.Path.{refl}
 use borrow.Author.Needs.{needs}
 use Rattle.sheet.proofs.passing.after_head.Statement.{statement}
 use Rattle.sheet.proofs.passing.after_head.Tie as tie
-use Rattle.sheet.proofs.passing.after_head.Reads as reads
-use Rattle.sheet.proofs.passing.after_head.Lts as lts
-use Rattle.sheet.proofs.passing.plain.Reads as plain-reads
-use Rattle.sheet.proofs.passing.with_grid.Reads as with-grid-reads
 
 enum-told : tie.Need-enum-told
 enum-told c = search needs

@@ -6,13 +6,6 @@ use mathlib.Core.Path.{refl}
 use borrow.Author.Needs.{needs}
 use Rattle.sheet.proofs.passing.from_heading.Statement.{statement}
 use Rattle.sheet.proofs.passing.from_heading.Tie as tie
-use Rattle.sheet.proofs.passing.from_heading.Reads as reads
-use Rattle.sheet.proofs.passing.from_heading.Lts as lts
-use Rattle.placer.proofs.Placer.new.Reads as new-reads
-use Rattle.records.proofs.records.next_record.Reads as next-record-reads
-use Rattle.records.proofs.records.read_record.Reads as read-record-reads
-use Rattle.sheet.proofs.passing.after_head.Reads as after-head-reads
-use Rattle.sheet.proofs.passing.refused.Reads as refused-reads
 
 new-requires : tie.Need-new-requires
 new-requires c κs = search needs

@@ -3,10 +3,6 @@ use mathlib.Core.Path.{refl}
 use borrow.Author.Needs.{needs}
 use Rattle.sheet.proofs.passing.from_record.Statement.{statement}
 use Rattle.sheet.proofs.passing.from_record.Tie as tie
-use Rattle.sheet.proofs.passing.from_record.Reads as reads
-use Rattle.sheet.proofs.passing.from_record.Lts as lts
-use Rattle.sheet.proofs.passing.from_heading.Reads as from-heading-reads
-use Rattle.sheet.proofs.passing.refused.Reads as refused-reads
 
 enum-known-r : tie.Need-enum-known-r
 enum-known-r c = search needs

@@ -1,4 +1,3 @@
-use borrow.Author.Needs.{needs}
 use borrow.Author.Tests.{eq-eqb, ne-eqb}
 use Rattle.sheet.specs.Passing.{laidOf}
 use Rattle.sheet.proofs.passing.laid_of.Statement.{statement}

@@ -6,12 +6,6 @@ use mathlib.Core.Path.{refl}
 use borrow.Author.Needs.{needs}
 use Rattle.sheet.proofs.passing.pass.Statement.{statement}
 use Rattle.sheet.proofs.passing.pass.Tie as tie
-use Rattle.sheet.proofs.passing.pass.Reads as reads
-use Rattle.sheet.proofs.passing.pass.Lts as lts
-use Rattle.records.proofs.records.read_record.Reads as read-record-reads
-use Rattle.records.proofs.sheets.check.Reads as check-reads
-use Rattle.sheet.proofs.passing.from_record.Reads as from-record-reads
-use Rattle.sheet.proofs.passing.refused.Reads as refused-reads
 
 check-requires : tie.Need-check-requires
 check-requires c κs = search needs

@@ -4,20 +4,13 @@ use Rattle.records.specs.declared.Record.{Record}
 use Rattle.sheet.proofs.Walking.{walk-ends, walk-is-full, walk-stops, walk-goes-on, room-left, moved-few, moved-in-ticks}
 use Rattle.records.specs.Sheets.{recordsFrom, widgets}
 use Rattle.records.proofs.Places.{next-within}
-use Rattle.records.specs.Records.{nextAt}
 use lib.ListN.{length, drop}
-use mathlib.Core.Path.{_≡_, refl, ap, sym, _∙_, subst}
-use Prim.Native.Nat.{_+_, _*_, _≤_, _<_}
+use mathlib.Core.Path.{_≡_, ap, _∙_}
+use Prim.Native.Nat.{_+_, _*_, _≤_}
 use native.Mathlib.Omega.{arith}
 use borrow.Author.Needs.{needs}
 use Rattle.sheet.proofs.walk.run.Statement.{statement}
 use Rattle.sheet.proofs.walk.run.Tie as tie
-use Rattle.sheet.proofs.walk.run.Reads as reads
-use Rattle.sheet.proofs.walk.run.Lts as lts
-use Rattle.records.proofs.records.next_record.Reads as next-record-reads
-use Rattle.records.proofs.records.read_record.Reads as read-record-reads
-use Rattle.sheet.proofs.cells.put.Reads as put-reads
-use Rattle.sheet.proofs.steps.record_moved.Reads as record-moved-reads
 
 abbrev Inv-loop : tie.InvT-loop
 Inv-loop text from first most spacing out₀ p₀ at₀ n₀ w₀ left₀ out p at n w left =

@@ -33,10 +33,13 @@ pub mod WholeEdges
 -- The clause.
 pub mod TextTicks
 pub mod PriceClause
+-- The call that runs.
 pub mod Slices
 pub mod Ticking
 pub mod Walking
 pub mod WalkedRuns
 pub mod WalkedPasses
+pub mod CallClause
+-- Document 01's cases.
 pub mod CaseTests
 pub mod Computed

@@ -28,6 +28,7 @@ use Rattle.sheet.specs.Pass as pass-rules
 use Rattle.sheet.specs.Pass.{Sheet, Cell, Ran, Stepped, stepped, followed, runFrom, called, headed, gridded, begun, ranWith, plateOf, remembered, refusedAt, outcomeOf, pass}
 use Rattle.sheet.specs.Texts.{stepsOf, noHeading, afterHeading, sheetOf, sheetIn}
 use Rattle.sheet.specs.Slices.{written, judged, laid}
+use Rattle.sheet.specs.CallClause.{controls}
 
 pub written-length : (cs : List Cell) → length (written cs) ≡ 8 * length cs
 unfolding written
@@ -35,12 +36,7 @@ written-length [] = refl
 written-length (c ∷ cs) = omega (arith, written-length cs)
 
 -- ---- no more cells than W
-unfoldable pub controls : List Step → ℕ
-unfolding widgetStep
-controls [] = 0
-controls (st ∷ rest) = widgetStep st + controls rest
-
-one-cell : (k : ℕ) (sp : Vec2) (p : Placer) (st : Step) → length (stepped k sp p st .cells) ≡ widgetStep st
+pub one-cell : (k : ℕ) (sp : Vec2) (p : Placer) (st : Step) → length (stepped k sp p st .cells) ≡ widgetStep st
 unfolding stepped pass-rules.widgetStep widgetStep
 one-cell k sp p (Widget w h) = refl
 one-cell k sp p (Space a) = refl

@@ -3,10 +3,12 @@ pub mod Pass
 pub mod Texts
 pub mod Sheets
 pub mod Slices
-pub mod Calls
-pub mod Walks
-pub mod Passing
 pub mod Columns
 pub mod Tops
 pub mod PriceClause
+pub mod CallClause
 pub mod Cases
+-- How the code goes through a text.
+pub mod Calls
+pub mod Walks
+pub mod Passing

@@ -3,7 +3,7 @@
 mod cells;
 mod corners;
 mod memories;
-mod moves;
+pub mod moves;
 mod passes;
 pub mod port;
 pub mod probe;
@@ -42,14 +42,14 @@ pub struct Saved {
 /// What `new` is given: the options are the spacing, the minimum and the maximum cell.
 #[derive(Clone)]
 pub struct New {
-    dir: u8,
-    region: State,
-    known: bool,
-    memory: Memory,
-    sizing_pass: bool,
-    options: [f32; 6],
-    num_columns: usize,
-    start_row: usize,
+    pub dir: u8,
+    pub region: State,
+    pub known: bool,
+    pub memory: Memory,
+    pub sizing_pass: bool,
+    pub options: [f32; 6],
+    pub num_columns: usize,
+    pub start_row: usize,
 }
 
 /// "a grid of zeros", which a refused `new` gives.

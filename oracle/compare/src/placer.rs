@@ -1,6 +1,6 @@
 //! Crate placer beside egui's placer.rs and document 01's table.
 
-mod calls;
+pub mod calls;
 mod corners;
 mod inspectors;
 mod port;
@@ -25,10 +25,10 @@ use corners::Corners;
 /// A placer as the port has it: without a grid nothing is read of the one there.
 #[derive(Clone)]
 pub struct Placer {
-    l: Fields,
-    has_grid: bool,
-    grid: Grid,
-    region: State,
+    pub l: Fields,
+    pub has_grid: bool,
+    pub grid: Grid,
+    pub region: State,
 }
 
 /// What a call gives.
@@ -47,7 +47,7 @@ impl Placer {
     }
 
     /// What the Rust has come to; the grid is the one given where there is none.
-    fn of(running: &Running, given: &Grid) -> Self {
+    pub fn of(running: &Running, given: &Grid) -> Self {
         Self {
             l: fields(running.layout()),
             has_grid: running.is_grid(),
@@ -58,7 +58,7 @@ impl Placer {
 
     /// "Callers' states count as arguments": the region's numbers, and where there is a grid its own
     /// and 7, "grid on direction 1 or 3".
-    fn numbers(&self) -> Vec<u8> {
+    pub fn numbers(&self) -> Vec<u8> {
         let mut numbers = of_region(self.l[0], &self.region).to_vec();
         if self.has_grid {
             numbers.extend(numbers_of_grid(&self.grid));
@@ -68,7 +68,7 @@ impl Placer {
     }
 
     /// 9 for a new state outside the domain.
-    fn number_as_new(&self) -> u8 {
+    pub fn number_as_new(&self) -> u8 {
         of_answer(least(&self.numbers()))
     }
 }
@@ -107,7 +107,7 @@ pub fn compare(t: &mut Tally) {
 }
 
 /// Refused, the placer's region is all zero; a new placer has no grid.
-fn new(l: &Fields, max_rect: &Edges, rust: impl FnOnce() -> Running) -> Expected<Outcome> {
+pub fn new(l: &Fields, max_rect: &Edges, rust: impl FnOnce() -> Running) -> Expected<Outcome> {
     let refused = Placer {
         l: *l,
         has_grid: false,

@@ -107,7 +107,7 @@ impl Call {
     }
 
     /// The numbers of its arguments, and of the call itself in this state.
-    fn numbers(&self, p: &Placer) -> Vec<u8> {
+    pub fn numbers(&self, p: &Placer) -> Vec<u8> {
         let (dir, grid) = (p.l[0], &p.grid);
         let in_grid = |number: u8| if p.has_grid { number } else { 0 };
         match self {

@@ -2,6 +2,12 @@
 //! as a pointer and a length, and a bool comes back as a byte.
 
 use super::answers::{Checked, FieldRead, RecordRead, Written};
+#[cfg(feature = "placer")]
+use super::driver::{Given, Passed};
+#[cfg(feature = "placer")]
+use crate::grid::port::{NOWHERE, UNTOUCHED_MEMORY};
+#[cfg(feature = "placer")]
+use crate::probe::UNTOUCHED;
 
 unsafe extern "C" {
     fn field_read(text: *const u8, len: usize, at: usize, limit: u32, value: &mut [i32; 1]) -> u8;
@@ -14,6 +20,22 @@ unsafe extern "C" {
         counts: &mut [usize; 6],
     ) -> u8;
     fn sheet_check(text: *const u8, len: usize, room: usize, counts: &mut [usize; 2]) -> u8;
+    #[cfg(feature = "placer")]
+    fn sheet_pass(
+        text: *const u8,
+        len: usize,
+        flags: &[u8; 2],
+        widths: &[f32; 32],
+        heights: &[f32; 128],
+        counts: &[usize; 2],
+        out: *mut i32,
+        room: usize,
+        plate: &mut [f32; 4],
+        out_widths: &mut [f32; 32],
+        out_heights: &mut [f32; 128],
+        out_counts: &mut [usize; 2],
+        places: &mut [usize; 2],
+    ) -> u8;
     fn line_write(
         out: *mut u8,
         len: usize,
@@ -67,4 +89,36 @@ pub fn write_line(
     let (first, count) = (numbers.as_ptr(), numbers.len());
     let written = unsafe { line_write(out.as_mut_ptr(), len, at, letter, first, count) };
     Written { written, bytes }
+}
+
+#[cfg(feature = "placer")]
+pub fn pass(given: &Given) -> Passed {
+    let mut out = given.out.clone();
+    let (mut plate, mut memory, mut places) = ([UNTOUCHED; 4], UNTOUCHED_MEMORY, [NOWHERE; 2]);
+    let number = unsafe {
+        sheet_pass(
+            given.text.as_ptr(),
+            given.text.len(),
+            &[given.known, given.sizing].map(u8::from),
+            &given.memory.widths,
+            &given.memory.heights,
+            &given.memory.counts,
+            out.as_mut_ptr(),
+            out.len(),
+            &mut plate,
+            &mut memory.widths,
+            &mut memory.heights,
+            &mut memory.counts,
+            &mut places,
+        )
+    };
+    let [record, save] = places;
+    Passed {
+        number,
+        record,
+        plate,
+        memory,
+        save: save as u8,
+        out,
+    }
 }

@@ -21,8 +21,7 @@ use Rattle.sheet.specs.declared.Passed.{Passed}
 use Rattle.sheet.specs.Pass.{Sheet, Cell, Ran, called, stepped, followed, runFrom, headed, gridded, begun, ranWith, pass, passes}
 use Rattle.sheet.specs.Sheets.{inTicks, FrameNoLess}
 use Rattle.sheet.specs.Texts.{sheetIn}
-use Rattle.sheet.specs.Slices.{eight, written, judged, laid}
-use Rattle.sheet.specs.Passing.{laidOf}
+use Rattle.sheet.specs.Slices.{eight, written, laidOf, judged, laid}
 use Rattle.sheet.specs.PriceClause.{NoLess, OfText}
 use Rattle.sheet.specs.CallClause.{Called, controls, place, frameIn, NoLessIn, CallClause}
 use Rattle.sheet.proofs.Runs.{going, run-goes}

@@ -24,10 +24,10 @@ use Rattle.records.specs.declared.Checked.{Checked}
 use Rattle.records.specs.declared.Checked.the-variants.{Accepted, Refused}
 use Rattle.sheet.specs.Pass.{Sheet, Outcome, Ran, called, followed, runFrom, headed, gridded, plateOf, remembered, refusedAt, outcomeOf, begun, ranWith, pass}
 use Rattle.sheet.specs.Texts.{stepsOf, afterHeading, sheetOf, sheetIn}
-use Rattle.sheet.specs.Slices.{written, Laid, judged, laid}
+use Rattle.sheet.specs.Slices.{written, passedOf, LaidOut, judged, laid}
 use Rattle.sheet.specs.declared.Passed.{Passed}
 use Rattle.sheet.specs.Passing as passing
-use Rattle.sheet.specs.Passing.{passedOf, ranOf, Answer, turnedBack, goneOn, plainOn, gridOn, afterHead, fromHeading, fromRecord, fromCheck, passIn}
+use Rattle.sheet.specs.Passing.{ranOf, Answer, turnedBack, goneOn, plainOn, gridOn, afterHead, fromHeading, fromRecord, fromCheck, passIn}
 use Rattle.sheet.proofs.WalkedRuns.{OnlySteps, none, more, walkOf, walked-is-run}
 
 -- an outcome with its rectangles in the slice
@@ -198,7 +198,7 @@ no-fault (b ∷ s) room r w h = go (ltb 0 (misplaced 1 (records (b ∷ s)))) ref
     go true e h = let o : _≡_ {A = ℕ} 0 1 = cc in absurd (omega arith)
     go false e h = let l = ltb-false 0 (misplaced 1 (records (b ∷ s))) e in record { some = omega arith; well = omega (arith, l) }
 
-abbrev pub laidAnswer : Laid → Answer
+abbrev pub laidAnswer : LaidOut → Answer
 laidAnswer l = record { passed = passedOf (l .outcome); slice = l .slice }
 
 pub walked-is-laid : (text : List ℕ) (known : Bool) (m : Memory) (sizing : Bool) (out : List ℤ) → passIn text known m sizing out ≡ laidAnswer (laid text known m sizing out)

@@ -13,8 +13,7 @@ use Rattle.sheet.specs.declared.Laid.the-variants.{Accepted}
 use Rattle.sheet.specs.declared.Passed.{Passed}
 use Rattle.sheet.specs.Sheets.{GrownSheet, NoNegativeSpacing, Strip, Ticks, inTicks, FrameNoLess, PlateNoLess}
 use Rattle.sheet.specs.Texts.{sheetIn}
-use Rattle.sheet.specs.Slices.{laid}
-use Rattle.sheet.specs.Passing.{passedOf}
+use Rattle.sheet.specs.Slices.{passedOf, laid}
 
 -- what the call promises: its answer, and the slice at its exit
 pub record Called (text : List ℕ) (known : Bool) (m : Memory) (sizing : Bool) (out : List ℤ) (p : Passed) (exit : List ℤ) : Type 0 where

@@ -156,7 +156,7 @@ unfoldable pub pass : ℕ → Sheet → Bool → Memory → Bool → Outcome
 pass k s known m sizing = outcomeOf (s .«has_grid») m (begun 1 (headed k (s .heading)) (ranWith k s known m sizing (headed k (s .heading) .placer)))
 
 -- ---- passes one after the other
--- "The first pass is without memory and sizing, each later one has the memory that the last one gave, and is not": pass n, from 0
+-- the first is without memory and sizing; each later one is given the memory that the last one gave, and is not: pass n, from 0
 unfoldable pub passes : ℕ → Sheet → ℕ → Outcome
 passes k s zero = pass k s false emptyMemory true
 passes k s (suc n) = pass k s true (passes k s n .memory) false

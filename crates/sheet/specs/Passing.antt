@@ -17,24 +17,16 @@ use Rattle.records.specs.declared.Record.{Record}
 use Rattle.records.specs.declared.Record.the-variants as record-of
 use Rattle.records.specs.declared.Checked.{Checked}
 use Rattle.records.specs.declared.Checked.the-variants as checked-of
-use Rattle.sheet.specs.declared.Laid.{Laid}
-use Rattle.sheet.specs.declared.Laid.the-variants.{Accepted, Refused}
 use Rattle.sheet.specs.declared.Passed.{Passed}
 use Rattle.sheet.specs.declared.Run.{Run}
 use Rattle.sheet.specs.Pass.{Outcome, Ran, refusedAt, outcomeOf, headed, gridded}
+use Rattle.sheet.specs.Slices.{passedOf}
 use Rattle.sheet.specs.Walks.{walked}
 
 -- the slice has room for the W after H, and after G
 pub record Room (text : List ℕ) (room : ℕ) : Type 0 where
   pub plain : 8 * widgets (recordsFrom 511 (drop (nextAt text 0) text)) ≤ room
   pub grid : 8 * widgets (recordsFrom 510 (drop (nextAt text (nextAt text 0)) text)) ≤ room
-
--- an outcome as the call answers it: the rectangles stand in the slice
-unfoldable pub laidOf : ℕ → ℕ → Laid
-laidOf number at = cond (eqb number 0) Accepted (Refused number at)
-
-abbrev pub passedOf : Outcome → Passed
-passedOf o = record { laid = laidOf (o .number) (o .at); plate = o .plate; memory = o .memory; save = o .save }
 
 abbrev pub ranOf : Run → Ran
 ranOf r = record { number = r .number; at = r .at; cells = []; placer = r .placer }

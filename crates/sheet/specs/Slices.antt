@@ -1,7 +1,8 @@
 -- Document 01, "The sheet" and "Turned back": one pass over a text, with a lent slice for the rectangles. Ticks: k = 5.
 use Prim.Native.Nat.{ℕ}
-use mathlib.Core.Bool.{Bool}
+use mathlib.Core.Bool.{Bool, cond}
 use mathlib.Core.List.{List, [], _∷_, _++_}
+use lib.Dec.{eqb}
 use lib.IntN.{ℤ}
 use lib.ListN.{length}
 use lib.Seq.{sets}
@@ -9,6 +10,9 @@ use Rattle.grid.specs.declared.Memory.{Memory}
 use Rattle.records.specs.Sheets.{checked}
 use Rattle.records.specs.declared.Checked.{Checked}
 use Rattle.records.specs.declared.Checked.the-variants.{Accepted, Refused}
+use Rattle.sheet.specs.declared.Laid.{Laid}
+use Rattle.sheet.specs.declared.Laid.the-variants as laid-of
+use Rattle.sheet.specs.declared.Passed.{Passed}
 use Rattle.sheet.specs.Pass.{Cell, Outcome, refusedAt, pass}
 use Rattle.sheet.specs.Texts.{sheetIn}
 use Rattle.sheet.specs.Sheets.{Ticks, inTicks}
@@ -24,19 +28,27 @@ unfoldable pub written : List Cell → List ℤ
 written [] = []
 written (c ∷ rest) = eight c ++ written rest
 
+-- "One library call is one pass, taking and giving a memory": it answers accepted, or the number and the record; its rectangles stand in the
+-- slice
+unfoldable pub laidOf : ℕ → ℕ → Laid
+laidOf number at = cond (eqb number 0) laid-of.Accepted (laid-of.Refused number at)
+
+abbrev pub passedOf : Outcome → Passed
+passedOf o = record { laid = laidOf (o .number) (o .at); plate = o .plate; memory = o .memory; save = o .save }
+
 -- what a pass gives, and what the slice then holds
-pub record Laid : Type 0 where
+pub record LaidOut : Type 0 where
   pub outcome : Outcome
   pub slice : List ℤ
 
 -- "After 1 to 3 the lent slice is untouched; later, records before the fault have theirs and all other places keep what they held before that
 -- pass."
-unfoldable pub judged : Checked → List ℕ → Bool → Memory → Bool → List ℤ → Laid
+unfoldable pub judged : Checked → List ℕ → Bool → Memory → Bool → List ℤ → LaidOut
 judged (Refused n at) text known m sizing out = record { outcome = refusedAt n at [] m; slice = out }
 judged (Accepted records widgets) text known m sizing out = record {
   outcome = pass 5 (sheetIn text) known m sizing;
   slice = sets out 0 (written (pass 5 (sheetIn text) known m sizing .cells));
 }
 
-unfoldable pub laid : List ℕ → Bool → Memory → Bool → List ℤ → Laid
+unfoldable pub laid : List ℕ → Bool → Memory → Bool → List ℤ → LaidOut
 laid text known m sizing out = judged (checked text (length out)) text known m sizing out

@@ -25,8 +25,8 @@ ghost use lib.ListN.{length, drop};
 ghost use Rattle.records.specs.Records.{nextAt};
 ghost use Rattle.records.specs.Sheets.{recordsFrom, widgets, checked};
 ghost use Rattle.sheet.specs.Pass.{refusedAt, outcomeOf, gridded as griddedBy};
-ghost use Rattle.sheet.specs.Passing.{laidOf, passedOf, ranOf, Room, goneOn, plainOn, gridOn, afterHead, fromHeading, fromRecord};
-ghost use Rattle.sheet.specs.Slices.{laid};
+ghost use Rattle.sheet.specs.Passing.{ranOf, Room, goneOn, plainOn, gridOn, afterHead, fromHeading, fromRecord};
+ghost use Rattle.sheet.specs.Slices.{laidOf, passedOf, laid};
 
 fn laid_of(number: u8, at: usize) -> Laid
     ensures { λ r. ⌜ r ≡ laidOf number at ⌝ }

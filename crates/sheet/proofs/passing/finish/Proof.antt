@@ -1,5 +1,5 @@
 use Rattle.sheet.specs.Pass.{outcomeOf, plateOf, remembered}
-use Rattle.sheet.specs.Passing.{laidOf}
+use Rattle.sheet.specs.Slices.{laidOf}
 use borrow.Author.Needs.{needs}
 use borrow.Author.Tests.{eq-eqb, ne-eqb}
 use Rattle.sheet.proofs.passing.finish.Statement.{statement}

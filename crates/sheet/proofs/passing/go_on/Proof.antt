@@ -1,7 +1,8 @@
 use mathlib.Core.Path.{refl, ap, _∙_}
 use Rattle.sheet.specs.declared.Run.{Run}
 use Rattle.sheet.specs.Pass.{outcomeOf}
-use Rattle.sheet.specs.Passing.{passedOf, ranOf}
+use Rattle.sheet.specs.Slices.{passedOf}
+use Rattle.sheet.specs.Passing.{ranOf}
 use borrow.Author.Tests.{eq-eqb, ne-eqb}
 use borrow.Author.Needs.{needs}
 use Rattle.sheet.specs.Passing.{goneOn}

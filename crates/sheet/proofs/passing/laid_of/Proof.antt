@@ -1,5 +1,5 @@
 use borrow.Author.Tests.{eq-eqb, ne-eqb}
-use Rattle.sheet.specs.Passing.{laidOf}
+use Rattle.sheet.specs.Slices.{laidOf}
 use Rattle.sheet.proofs.passing.laid_of.Statement.{statement}
 use Rattle.sheet.proofs.passing.laid_of.Tie as tie
 

@@ -54,7 +54,7 @@ ran-all k s known m sizing p h = go (s .«has_grid») h
         omega (arith, r, ap (λ (cs : List Cell). length cs) (g .cells))
     go false h = run-all k (s .heading .spacing) 2 p (s .steps) h
 
-pass-all : (k : ℕ) (s : Sheet) (known : Bool) (m : Memory) (sizing : Bool) → pass k s known m sizing .number ≡ 0 → controls (s .steps) ≤ length (pass k s known m sizing .cells)
+pub pass-all : (k : ℕ) (s : Sheet) (known : Bool) (m : Memory) (sizing : Bool) → pass k s known m sizing .number ≡ 0 → controls (s .steps) ≤ length (pass k s known m sizing .cells)
 unfolding pass begun
 pass-all k s known m sizing h =
     let later = ranWith k s known m sizing (headed k (s .heading) .placer) in
@@ -81,14 +81,14 @@ frames-in (c ∷ cs) (d ∷ ds) xs ys (Forall₂·cons r rs) (suc k) l =
     rw (next-frame c (written cs ++ xs) k, next-frame d (written ds ++ ys) k) (frames-in cs ds xs ys rs k (omega arith))
 
 -- ---- what an accepted call has shown
-record Shown (text : List ℕ) (known : Bool) (m : Memory) (sizing : Bool) (p : Passed) (exit : List ℤ) : Type 0 where
+pub record Shown (text : List ℕ) (known : Bool) (m : Memory) (sizing : Bool) (p : Passed) (exit : List ℤ) : Type 0 where
   pub number : pass 5 (sheetIn text) known m sizing .number ≡ 0
   pub plate : p .plate ≡ pass 5 (sheetIn text) known m sizing .plate
   pub memory : p .memory ≡ pass 5 (sheetIn text) known m sizing .memory
   pub others : List ℤ
   pub slice : exit ≡ written (pass 5 (sheetIn text) known m sizing .cells) ++ others
 
-no-number : (n at : ℕ) → laidOf n at ≡ Accepted → n ≡ 0
+pub no-number : (n at : ℕ) → laidOf n at ≡ Accepted → n ≡ 0
 unfolding laidOf
 no-number n at h = go (eqb n 0) refl h
   where
@@ -96,7 +96,7 @@ no-number n at h = go (eqb n 0) refl h
     go true e h = eqb-true n 0 e
     go false e h = let o : _≡_ {A = ℕ} 0 1 = cc in absurd (omega arith)
 
-some-number : (s : List ℕ) (room n at : ℕ) → checked s room ≡ checked-of.Refused n at → 0 < n
+pub some-number : (s : List ℕ) (room n at : ℕ) → checked s room ≡ checked-of.Refused n at → 0 < n
 unfolding checked sized
 some-number s room n at h = go (isEmpty s) (ltb 0 (misplaced 1 (records s))) (isEmpty (after 512 s)) (ltb room (8 * widgets (records s))) h
   where
@@ -110,7 +110,7 @@ some-number s room n at h = go (isEmpty s) (ltb 0 (misplaced 1 (records s))) (is
     go false false true false h = let o : _≡_ {A = ℕ} 0 1 = cc in absurd (omega arith)
 
 module _ (text : List ℕ) (known : Bool) (m : Memory) (sizing : Bool) (out : List ℤ) (p : Passed) (exit : List ℤ) where
-  shown : Called text known m sizing out p exit → p .laid ≡ Accepted → Shown text known m sizing p exit
+  pub shown : Called text known m sizing out p exit → p .laid ≡ Accepted → Shown text known m sizing p exit
   unfolding laid judged
   shown c l = go (checked text (length out)) refl (no-number _ _ (ap (λ (x : Passed). x .laid) (sym (c .answer)) ∙ l))
     where

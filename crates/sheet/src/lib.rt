@@ -3,7 +3,7 @@ use emath::Rect;
 use grid::Memory;
 use placer::Placer;
 
-mod cells;
+pub mod cells;
 pub mod passing;
 mod steps;
 mod walk;

@@ -51,7 +51,7 @@ unfolding texts
 texts-length [] = refl
 texts-length (z ∷ zs) = omega (arith, length-append (text z) (texts zs), columns-length (negative z) (natAbs z) 8, texts-length zs)
 
-sets-append : (xs ys l : List ℕ) (i : ℕ) → sets l i (xs ++ ys) ≡ sets (sets l i xs) (i + length xs) ys
+pub sets-append : (xs ys l : List ℕ) (i : ℕ) → sets l i (xs ++ ys) ≡ sets (sets l i xs) (i + length xs) ys
 sets-append [] ys l i = ap (λ (k : ℕ). sets l k ys) (sym (add-zero i))
 sets-append (a ∷ xs) ys l i =
     let e : suc i + length xs ≡ i + suc (length xs) = omega arith in

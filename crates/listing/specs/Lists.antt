@@ -1,0 +1,64 @@
+-- Document 01, "The sheet": the list that `platelist` prints of a text.
+use Prim.Native.Nat.{ℕ, _+_}
+use mathlib.Core.Bool.{Bool, cond, _&&_}
+use mathlib.Core.List.{List, [], _∷_, _++_}
+use lib.Dec.{eqb}
+use lib.IntN.{pos}
+use lib.ListN.{length}
+use lib.Seq.{sets}
+use lib.Ieee.{Float}
+use Rattle.grid.specs.Memories.{widths, heights}
+use Rattle.grid.specs.declared.Memory.{Memory}
+use Rattle.records.specs.Sheets.{records, widget, checked}
+use Rattle.records.specs.declared.Record.{Record}
+use Rattle.records.specs.declared.Checked.{Checked}
+use Rattle.records.specs.declared.Checked.the-variants.{Accepted, Refused}
+use Rattle.text.specs.Lines.{line}
+use Rattle.sheet.specs.Pass.{Sheet, Cell, Outcome, passes}
+use Rattle.sheet.specs.Sheets.{ticks, inTicks}
+use Rattle.sheet.specs.Slices.{edges, eight}
+use Rattle.sheet.specs.Texts.{sheetIn}
+
+-- "The program runs a sheet with G twice …, the first pass without memory, the second using the first's memory and not sizing; the second is
+-- printed. Such a sheet is accepted if both passes are."
+unfoldable pub printed : Sheet → Outcome
+printed s = cond (eqb (passes 5 s 0 .number) 0 && s .«has_grid») (passes 5 s 1) (passes 5 s 0)
+
+-- "W record number and eight edges": of the W among these records, the first of which is record n
+unfoldable pub widgetLines : ℕ → List Record → List Cell → List ℕ
+widgetLines n [] cells = []
+widgetLines n (r ∷ rs) [] = []
+widgetLines n (r ∷ rs) (c ∷ cs) =
+    cond (eqb (widget r) 1) (line 87 (pos n ∷ eight c) ++ widgetLines (n + 1) rs cs) (widgetLines (n + 1) rs (c ∷ cs))
+
+-- "C index width per column, then D index height per row", a letter's entries from index i on
+unfoldable pub entryLines : ℕ → ℕ → List Float → List ℕ
+entryLines letter i [] = []
+entryLines letter i (x ∷ xs) = line letter (pos i ∷ ticks 5 x ∷ []) ++ entryLines letter (i + 1) xs
+
+-- "both of the printed pass's memory, indexes from 0"
+unfoldable pub memoryLines : Memory → List ℕ
+memoryLines m = entryLines 67 0 (widths m) ++ entryLines 68 0 (heights m)
+
+-- "P the plate's edges; for grids C …, then D … Lines come in this order."
+unfoldable pub acceptedLines : Bool → List Record → Outcome → List ℕ
+acceptedLines grid rs o = widgetLines 1 rs (o .cells) ++ (line 80 (edges (inTicks 5 (o .plate))) ++ cond grid (memoryLines (o .memory)) [])
+
+-- "If refused, only X with refusal number and record number (from 1)."
+unfoldable pub refusalLine : ℕ → ℕ → List ℕ
+refusalLine number at = line 88 (pos number ∷ pos at ∷ [])
+
+unfoldable pub outcomeLines : Bool → List Record → Outcome → List ℕ
+outcomeLines grid rs o = cond (eqb (o .number) 0) (acceptedLines grid rs o) (refusalLine (o .number) (o .at))
+
+unfoldable pub answered : Checked → List ℕ → List ℕ
+answered (Refused number at) text = refusalLine number at
+answered (Accepted count w) text = outcomeLines (sheetIn text .«has_grid») (records text) (printed (sheetIn text))
+
+-- the slice has room for 512 W, so that none is short
+unfoldable pub listOf : List ℕ → List ℕ
+listOf text = answered (checked text 4096) text
+
+-- the list's length, and a slice with the list from its start, every other place as it was
+abbrev pub listIn : List ℕ → List ℕ → ℕ × List ℕ
+listIn out text = (length (listOf text), sets out 0 (listOf text))

@@ -1,0 +1,111 @@
+-- The list as the code writes it, line after line: where the next line begins, and what the slice then holds.
+use Prim.Native.Nat.{ℕ, zero, suc, _+_, _*_, _≤_}
+use mathlib.Core.Bool.{Bool, true, false, cond, _&&_}
+use mathlib.Core.List.{List, [], _∷_}
+use lib.Dec.{leb, eqb}
+use lib.IntN.{ℤ, pos}
+use lib.ListN.{length, getD}
+use lib.Seq.{sets}
+use lib.Ieee.{Float}
+use Rattle.emath.specs.Steps.{Edge}
+use Rattle.emath.specs.declared.Rect.{Rect}
+use Rattle.layout.specs.Steps.{WholeRect}
+use Rattle.grid.specs.Memories.{widths, heights}
+use Rattle.grid.specs.declared.Memory.{Memory}
+use Rattle.records.specs.Parts.{letter}
+use Rattle.records.specs.Records.{rest, recordAt, nextAt}
+use Rattle.records.specs.declared.Record.{Record}
+use Rattle.records.specs.declared.Record.the-variants as record-of
+use Rattle.text.specs.Lines.{line, haveTexts}
+use Rattle.sheet.specs.declared.Laid.{Laid}
+use Rattle.sheet.specs.declared.Laid.the-variants as laid-of
+use Rattle.sheet.specs.declared.Passed.{Passed}
+use Rattle.sheet.specs.Sheets.{ticks, inTicks}
+use Rattle.sheet.specs.Slices.{edges}
+
+pub record Put : Type 0 where
+  pub at : ℕ
+  pub out : List ℕ
+
+abbrev pub bytes : List ℤ → ℕ
+bytes zs = 2 + 8 * length zs
+
+-- a line, where it has room and each number a text
+unfoldable pub putLine : ℕ → List ℤ → Put → Put
+putLine letter zs p =
+    cond (leb (p .at + bytes zs) (length (p .out)) && haveTexts zs)
+    (record { at = p .at + bytes zs; out = sets (p .out) (p .at) (line letter zs) })
+    p
+
+-- places 8k to 8k + 7
+abbrev pub placesOf : List ℤ → ℕ → List ℤ
+placesOf cells k =
+    getD cells (8 * k) (pos 0) ∷ getD cells (8 * k + 1) (pos 0) ∷ getD cells (8 * k + 2) (pos 0) ∷ getD cells (8 * k + 3) (pos 0)
+    ∷ getD cells (8 * k + 4) (pos 0) ∷ getD cells (8 * k + 5) (pos 0) ∷ getD cells (8 * k + 6) (pos 0) ∷ getD cells (8 * k + 7) (pos 0) ∷ []
+
+-- 1 where the text begins with a W, else 0
+unfoldable pub mark : List ℕ → ℕ
+mark s = cond (eqb (letter s) 87) 1 0
+
+-- W number k, of record n, where there is one
+unfoldable pub putWidget : ℕ → ℕ → ℕ → List ℤ → Put → Put
+putWidget here n k cells p = cond (eqb here 0) p (putLine 87 (pos n ∷ placesOf cells k) p)
+
+-- record n is at the front of the text, k W came before it, and there may be so many records more
+unfoldable pub putWidgets : ℕ → ℕ → ℕ → List ℕ → List ℤ → Put → Put
+putWidgets zero n k s cells p = p
+putWidgets (suc left) n k [] cells p = p
+putWidgets (suc left) n k (b ∷ s) cells p = putWidgets left (n + 1) (k + mark (b ∷ s)) (rest (b ∷ s)) cells (putWidget (mark (b ∷ s)) n k cells p)
+
+-- entries from index i on
+unfoldable pub putEntries : ℕ → ℕ → List Float → Put → Put
+putEntries letter i [] p = p
+putEntries letter i (x ∷ xs) p = putEntries letter (i + 1) xs (putLine letter (pos i ∷ ticks 5 x ∷ []) p)
+
+unfoldable pub putMemory : Memory → Put → Put
+putMemory m p = putEntries 68 0 (heights m) (putEntries 67 0 (widths m) p)
+
+unfoldable pub putAccepted : List ℕ → List ℤ → Rect → Memory → Put → Put
+putAccepted text cells plate m p = putMemory m (putLine 80 (edges (inTicks 5 plate)) (putWidgets 512 1 0 text cells p))
+
+-- lengths that are whole ticks
+pub data Whole : List Float → Type 0 where
+  none : Whole []
+  more : {x : Float} {xs : List Float} → Edge 5 x → Whole xs → Whole (x ∷ xs)
+
+pub record WholeMemory (m : Memory) : Type 0 where
+  pub cols : m .cols ≤ 32
+  pub rows : m .rows ≤ 128
+  pub widths : Whole (widths m)
+  pub heights : Whole (heights m)
+
+-- whether the second record is a G
+unfoldable pub isGrid : Record → Bool
+isGrid (record-of.Heading h) = false
+isGrid (record-of.Grid g) = true
+isGrid (record-of.Step st) = false
+isGrid record-of.Wrong = false
+
+unfoldable pub hasGrid : List ℕ → Bool
+hasGrid text = isGrid (recordAt text (nextAt text 0))
+
+-- ---- a pass
+unfoldable pub isAccepted : Laid → Bool
+isAccepted laid-of.Accepted = true
+isAccepted (laid-of.Refused number at) = false
+
+-- it can be printed: its plate and memory where it is accepted, else the record's number
+unfoldable pub printable : Laid → Passed → Type 0
+printable laid-of.Accepted p = WholeRect 5 (p .plate) × WholeMemory (p .memory)
+printable (laid-of.Refused number at) p = at ≤ 600
+
+abbrev pub Printable : Passed → Type 0
+Printable p = printable (p .laid) p
+
+unfoldable pub putPassed : Laid → List ℕ → List ℤ → Passed → Put → Put
+putPassed laid-of.Accepted text cells p at = putAccepted text cells (p .plate) (p .memory) at
+putPassed (laid-of.Refused number n) text cells p at = putLine 88 (pos number ∷ pos n ∷ []) at
+
+unfoldable pub numberOf : Laid → ℕ
+numberOf laid-of.Accepted = 0
+numberOf (laid-of.Refused number at) = number

@@ -1,0 +1,89 @@
+// The list of a text: one pass, or two with a grid over one slice, and the lines of the last.
+use crate::MAX_LIST;
+use crate::PLACES;
+use crate::lines::put_memory;
+use crate::lines::put_plate;
+use crate::lines::put_refusal;
+use crate::lines::put_widgets;
+use emath::Rect;
+use grid::Memory;
+use grid::memories::empty_memory;
+use records::Record;
+use records::records::next_record;
+use records::records::read_record;
+use sheet::Laid;
+use sheet::Passed;
+use sheet::passing::pass;
+ghost use mathlib.Core.Path.{_≡_};
+ghost use Prim.Native.Nat.{_≤_, _<_};
+ghost use Rattle.layout.specs.Steps.{WholeRect};
+ghost use Rattle.listing.specs.Lists.{listIn};
+ghost use Rattle.listing.specs.Putting.{isGrid, hasGrid, isAccepted, putAccepted, putPassed, WholeMemory, Printable, numberOf};
+
+fn is_grid(r: Record) -> bool
+    ensures { λ b. ⌜ b ≡ isGrid r ⌝ }
+{
+    match r {
+        Record::Heading(_) => false,
+        Record::Grid(_) => true,
+        Record::Step(_) => false,
+        Record::Wrong => false,
+    }
+}
+
+// Whether the second record is a G.
+fn has_grid(text: &[u8]) -> bool
+    ensures { λ b. ⌜ b ≡ hasGrid (now (text .entry)) ⌝ }
+{
+    is_grid(read_record(text, next_record(text, 0)))
+}
+
+fn is_accepted(laid: Laid) -> bool
+    ensures { λ b. ⌜ b ≡ isAccepted laid ⌝ }
+{
+    match laid {
+        Laid::Accepted => true,
+        Laid::Refused(_, _) => false,
+    }
+}
+
+// An accepted pass: W for each control, P, then C and D. Without a grid the memory is empty, and there is neither.
+fn put_accepted(out: &mut [u8], text: &[u8], cells: &[i32], plate: Rect, memory: Memory) -> usize
+    requires { ⌜ WholeRect 5 plate × WholeMemory memory ⌝ }
+    ensures { λ r. ⌜ record { at = r; out = now (out .exit) } ≡ putAccepted (now (text .entry)) (now (cells .entry)) plate memory (record { at = 0; out = now (out .entry) }) ⌝ }
+{
+    let after = put_widgets(out, text, cells);
+    let last = put_plate(out, after, plate);
+    put_memory(out, last, memory)
+}
+
+// The lines of the pass that is printed.
+fn put_passed(out: &mut [u8], text: &[u8], cells: &[i32], p: Passed) -> usize
+    requires { ⌜ Printable p ⌝ }
+    ensures { λ r. ⌜ (record { at = r; out = now (out .exit) } ≡ putPassed (p .laid) (now (text .entry)) (now (cells .entry)) p (record { at = 0; out = now (out .entry) })) × (numberOf (p .laid) < 256) ⌝ }
+{
+    let laid = p.laid;
+    match laid {
+        Laid::Accepted => {
+            let memory = p.memory;
+            put_accepted(out, text, cells, p.plate, memory)
+        }
+        Laid::Refused(number, record) => put_refusal(out, number, record),
+    }
+}
+
+// Writes the list from the slice's start, and answers its length. The rest of the slice stays as it was.
+pub fn print(text: &[u8], out: &mut [u8; MAX_LIST]) -> usize
+    ensures { λ n. ⌜ ((n, now (out .exit)) ≡ listIn (now (out .entry)) (now (text .entry))) × (n ≤ 40802) ⌝ }
+{
+    let mut cells: [i32; PLACES] = [0; PLACES];
+    let none = empty_memory();
+    let first = pass(text, false, none, true, &mut cells);
+    let laid = first.laid;
+    if is_accepted(laid) & has_grid(text) {
+        let memory = first.memory;
+        let second = pass(text, true, memory, false, &mut cells);
+        return put_passed(out, text, &cells, second);
+    }
+    put_passed(out, text, &cells, first)
+}

@@ -6,3 +6,4 @@ pub mod Written
 pub mod Memories
 pub mod Places
 pub mod Printed
+pub mod LongTexts

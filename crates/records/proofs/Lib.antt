@@ -2,3 +2,4 @@
 pub mod Lengths
 pub mod Places
 pub mod Reached
+pub mod Prefixes

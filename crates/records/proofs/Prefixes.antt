@@ -1,0 +1,160 @@
+-- A record is made of its first 98 bytes, H's length; so what 1 to 3 say of a text longer than 512 such records shows in its first 50,177
+-- bytes. Assumes nothing.
+use Prim.Native.Nat.{ℕ, zero, suc, _+_, _-_, _*_, _≤_, _<_}
+use mathlib.Core.Path.{_≡_, refl, ap, sym, _∙_}
+use mathlib.Core.List.{List, [], _∷_}
+use mathlib.Core.Bool.{Bool, true, false}
+use native.Mathlib.Omega.{arith}
+use borrow.Author.Tests.{leb-true, leb-false, le-leb, lt-leb}
+use lib.Dec.{leb, ltb, eqb}
+use lib.IntN.{pos}
+use lib.ListN.{length, getD, take, drop, length-take, length-drop}
+use lib.Seq.{getD-take, take-take, take-nil, length-take-le}
+use Rattle.text.specs.Fields.{fieldAt}
+use Rattle.records.specs.Parts.{letter, ends, lengthIn, countIn}
+use Rattle.records.specs.Records.{pairFits, pairIn, layoutFits, layoutIn, rectIn, headingRecord, maximaFit, maximaIn, optionsIn, gridRecord, stepRecord, widgetRecord, singleRecord, recordOf, fieldCount, size, rest}
+use Rattle.records.specs.Sheets.{recordsFrom, records, after, misplaced, isEmpty, pick, checked}
+use Rattle.records.specs.declared.Step.{Step}
+use Rattle.records.specs.declared.Record.{Record}
+use Rattle.records.specs.declared.Checked.the-variants.{Refused}
+use Rattle.records.proofs.Reached.{not-empty}
+
+drop-take : (n m : ℕ) (l : List ℕ) → drop n (take m l) ≡ take (m - n) (drop n l)
+drop-take zero m l = let e : m - 0 ≡ m = omega arith in rw e
+drop-take (suc n) m [] = ap (λ (l : List ℕ). drop (suc n) l) (take-nil m) ∙ sym (take-nil (m - suc n))
+drop-take (suc n) zero (b ∷ l) = let e : 0 - suc n ≡ 0 = omega arith in rw e
+drop-take (suc n) (suc m) (b ∷ l) = let e : suc m - suc n ≡ m - n = omega arith in rw e (drop-take n m l)
+
+-- ---- a field within the prefix
+module _ (m : ℕ) (s : List ℕ) where
+  reaches : (n : ℕ) → n ≤ m → leb n (length (take m s)) ≡ leb n (length s)
+  reaches n h = go (leb n (length s)) refl
+    where
+      go : (b : Bool) → leb n (length s) ≡ b → leb n (length (take m s)) ≡ b
+      go true e = le-leb n (length (take m s)) (simp length-take (omega (arith, leb-true n (length s) e)))
+      go false e = lt-leb n (length (take m s)) (simp length-take (omega (arith, leb-false n (length s) e)))
+
+  same-field : (limit at : ℕ) → at + 8 ≤ m → fieldAt limit (take m s) at ≡ fieldAt limit s at
+  unfolding fieldAt
+  same-field limit at h = rw (reaches (at + 8) h, drop-take at m s, take-take 8 (m - at) (drop at s) (omega arith))
+
+-- ---- a record within the prefix
+module _ (m : ℕ) (h : 98 ≤ m) (s : List ℕ) where
+  abbrev t : List ℕ
+  t = take m s
+
+  same-letter : letter t ≡ letter s
+  same-letter = getD-take m s 0 0 (omega arith)
+
+  same-ends : (n : ℕ) → n ≤ 12 → ends t n ≡ ends s n
+  unfolding ends
+  same-ends n l = rw (getD-take m s (1 + 8 * n) 0 (omega arith))
+
+  same-length : (i : ℕ) → i ≤ 11 → lengthIn t i ≡ lengthIn s i
+  unfolding lengthIn
+  same-length i l = rw (same-field m s 2097152 (1 + 8 * i) (omega arith))
+
+  same-count : (i most : ℕ) → i ≤ 11 → countIn t i most ≡ countIn s i most
+  unfolding countIn
+  same-count i most l = same-field m s most (1 + 8 * i) (omega arith)
+
+  same-pair-fits : (i : ℕ) → i ≤ 10 → pairFits t i ≡ pairFits s i
+  unfolding pairFits
+  same-pair-fits i l = rw (same-length i (omega arith), same-length (i + 1) (omega arith))
+
+  same-pair : (i : ℕ) → i ≤ 10 → pairIn t i ≡ pairIn s i
+  unfolding pairIn
+  same-pair i l = rw (same-length i (omega arith), same-length (i + 1) (omega arith))
+
+  same-layout-fits : layoutFits t ≡ layoutFits s
+  unfolding layoutFits
+  same-layout-fits = rw (same-count 0 3 (omega arith), same-count 1 1 (omega arith), same-count 2 2 (omega arith), same-count 3 1 (omega arith), same-count 4 2 (omega arith), same-count 5 1 (omega arith))
+
+  same-layout : layoutIn t ≡ layoutIn s
+  unfolding layoutIn
+  same-layout = rw (same-count 0 3 (omega arith), same-count 1 1 (omega arith), same-count 2 2 (omega arith), same-count 3 1 (omega arith), same-count 4 2 (omega arith), same-count 5 1 (omega arith))
+
+  same-rect : rectIn t ≡ rectIn s
+  unfolding rectIn
+  same-rect = rw (same-pair 6 (omega arith), same-pair 8 (omega arith))
+
+  same-heading : headingRecord t ≡ headingRecord s
+  unfolding headingRecord
+  same-heading = rw (same-layout-fits, same-pair-fits 6 (omega arith), same-pair-fits 8 (omega arith), same-pair-fits 10 (omega arith), same-ends 12 (omega arith), same-layout, same-rect, same-pair 10 (omega arith))
+
+  same-maxima-fit : maximaFit t ≡ maximaFit s
+  unfolding maximaFit
+  same-maxima-fit = rw (same-length 2 (omega arith), same-length 3 (omega arith))
+
+  same-options : optionsIn t ≡ optionsIn s
+  unfolding optionsIn maximaIn
+  same-options = rw (same-pair 0 (omega arith), same-length 2 (omega arith), same-length 3 (omega arith), same-count 4 32 (omega arith), same-count 5 127 (omega arith))
+
+  same-grid : gridRecord t ≡ gridRecord s
+  unfolding gridRecord
+  same-grid = rw (same-pair-fits 0 (omega arith), same-maxima-fit, same-count 4 32 (omega arith), same-count 5 127 (omega arith), same-ends 6 (omega arith), same-options)
+
+  same-step : (n : ℕ) → n ≤ 12 → (fits : Bool) (step : Step) → stepRecord t n fits step ≡ stepRecord s n fits step
+  unfolding stepRecord
+  same-step n l fits step = rw (same-ends n l)
+
+  same-widget : widgetRecord t ≡ widgetRecord s
+  unfolding widgetRecord stepRecord
+  same-widget = rw (same-length 0 (omega arith), same-length 1 (omega arith), same-ends 2 (omega arith))
+
+  same-single : (b : ℕ) → singleRecord t b ≡ singleRecord s b
+  unfolding singleRecord stepRecord
+  same-single b = rw (same-length 0 (omega arith), same-ends 1 (omega arith))
+
+  pub same-record : recordOf t ≡ recordOf s
+  unfolding recordOf
+  same-record = rw (same-letter, same-heading, same-grid, same-widget, same-step 0 (omega arith), same-single (letter s))
+
+-- ---- a record has at most 98 bytes
+few-fields : (l : ℕ) → fieldCount l ≤ 12
+unfolding fieldCount
+few-fields l = go (eqb l 72) (eqb l 71) (eqb l 87) (eqb l 83) (eqb l 82) (eqb l 76) (eqb l 75) (eqb l 78) (eqb l 84) refl refl refl refl refl refl refl refl refl
+  where
+    go : (a b c d e f g h i : Bool) → eqb l 72 ≡ a → eqb l 71 ≡ b → eqb l 87 ≡ c → eqb l 83 ≡ d → eqb l 82 ≡ e → eqb l 76 ≡ f → eqb l 75 ≡ g → eqb l 78 ≡ h → eqb l 84 ≡ i → fieldCount l ≤ 12
+    go true _ _ _ _ _ _ _ _ e0 _ _ _ _ _ _ _ _ = rw (e0) (omega arith)
+    go false true _ _ _ _ _ _ _ e0 e1 _ _ _ _ _ _ _ = rw (e0, e1) (omega arith)
+    go false false true _ _ _ _ _ _ e0 e1 e2 _ _ _ _ _ _ = rw (e0, e1, e2) (omega arith)
+    go false false false true _ _ _ _ _ e0 e1 e2 e3 _ _ _ _ _ = rw (e0, e1, e2, e3) (omega arith)
+    go false false false false true _ _ _ _ e0 e1 e2 e3 e4 _ _ _ _ = rw (e0, e1, e2, e3, e4) (omega arith)
+    go false false false false false true _ _ _ e0 e1 e2 e3 e4 e5 _ _ _ = rw (e0, e1, e2, e3, e4, e5) (omega arith)
+    go false false false false false false true _ _ e0 e1 e2 e3 e4 e5 e6 _ _ = rw (e0, e1, e2, e3, e4, e5, e6) (omega arith)
+    go false false false false false false false true _ e0 e1 e2 e3 e4 e5 e6 e7 _ = rw (e0, e1, e2, e3, e4, e5, e6, e7) (omega arith)
+    go false false false false false false false false true e0 e1 e2 e3 e4 e5 e6 e7 e8 = rw (e0, e1, e2, e3, e4, e5, e6, e7, e8) (omega arith)
+    go false false false false false false false false false e0 e1 e2 e3 e4 e5 e6 e7 e8 = rw (e0, e1, e2, e3, e4, e5, e6, e7, e8) (omega arith)
+
+pub small-size : (s : List ℕ) → size s ≤ 98
+small-size s = omega (arith, few-fields (letter s))
+
+-- ---- the records within the prefix
+pub same-records : (left m : ℕ) (s : List ℕ) → 98 * left ≤ m → recordsFrom left (take m s) ≡ recordsFrom left s
+unfolding recordsFrom
+same-records zero m s h = refl
+same-records (suc left) m [] h = ap (λ (l : List ℕ). recordsFrom (suc left) l) (take-nil m)
+same-records (suc left) zero (b ∷ s) h = absurd (omega arith)
+same-records (suc left) (suc m) (b ∷ s) h =
+    let z = small-size (b ∷ s) in
+    let r : recordOf (take (suc m) (b ∷ s)) ≡ recordOf (b ∷ s) = same-record (suc m) (omega arith) (b ∷ s) in
+    let d : rest (take (suc m) (b ∷ s)) ≡ take (suc m - size (b ∷ s)) (rest (b ∷ s)) = drop-take (size (b ∷ s)) (suc m) (b ∷ s) in
+    rw (r, d) (ap (λ (rs : List Record). recordOf (b ∷ s) ∷ rs) (same-records left (suc m - size (b ∷ s)) (rest (b ∷ s)) (omega (arith, z))))
+
+-- and something is left after them
+left-after : (left : ℕ) (s : List ℕ) → 98 * left < length s → 0 < length (after left s)
+unfolding after
+left-after zero s h = omega arith
+left-after (suc left) s h = left-after left (rest s) (omega (arith, length-drop (size s) s, small-size s))
+
+-- ---- 1 to 3
+some : (s : List ℕ) (room : ℕ) → 50176 < length s → checked s room ≡ pick (ltb 0 (misplaced 1 (records s))) (Refused 1 (misplaced 1 (records s))) (Refused 2 513)
+unfolding checked
+some s room h = rw (not-empty s (omega arith), not-empty (after 512 s) (left-after 512 s (omega arith)))
+
+pub long-text : (s : List ℕ) (room : ℕ) → 50177 ≤ length s → (checked (take 50177 s) room ≡ checked s room) × (records (take 50177 s) ≡ records s)
+long-text s room h =
+    let r : records (take 50177 s) ≡ records s = same-records 512 50177 s (omega arith) in
+    let l : length (take 50177 s) ≡ 50177 = length-take-le 50177 s h in
+    (some (take 50177 s) room (omega (arith, l)) ∙ rw r (sym (some s room (omega arith))), r)

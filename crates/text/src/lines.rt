@@ -1,14 +1,12 @@
-// Lines of the printed list: a letter, its numbers in the sheet's columns, one LF.
-use crate::Edges;
+// A line of the printed list: a letter, its numbers in the sheet's columns, one LF.
 use crate::fields::has_text;
 use crate::fields::write_field;
 ghost use mathlib.Core.Path.{_≡_};
 ghost use mathlib.Core.Bool.{true};
-ghost use mathlib.Core.List.{_++_};
 ghost use Prim.Native.Nat.{_+_, _*_, _≤_};
 ghost use lib.ListN.{length};
 ghost use lib.Seq.{sets};
-ghost use Rattle.text.specs.Lines.{texts, haveTexts, line, lineAt, widgetLine, plateLine, columnLine, rowLine, refusalLine, lineWritten};
+ghost use Rattle.text.specs.Lines.{texts, haveTexts, line, lineAt};
 
 fn have_texts(numbers: &[i32]) -> bool
     ensures { λ r. ⌜ r ≡ haveTexts (now (numbers .entry)) ⌝ }
@@ -70,54 +68,4 @@ pub fn write_line(out: &mut [u8], at: usize, letter: u8, numbers: &[i32]) -> boo
         return true;
     }
     false
-}
-
-// W: the record's number, and the edges of its frame and its widget.
-pub fn widget_line(out: &mut [u8], at: usize, number: i32, frame: Edges, widget: Edges) -> bool
-    ensures { λ r. ⌜ (r, now (out .exit)) ≡ lineWritten (now (out .entry)) at (widgetLine number frame widget) ⌝ }
-{
-    let numbers = [
-        number,
-        frame.left,
-        frame.top,
-        frame.right,
-        frame.bottom,
-        widget.left,
-        widget.top,
-        widget.right,
-        widget.bottom,
-    ];
-    write_line(out, at, b'W', &numbers)
-}
-
-// P: the plate's edges.
-pub fn plate_line(out: &mut [u8], at: usize, plate: Edges) -> bool
-    ensures { λ r. ⌜ (r, now (out .exit)) ≡ lineWritten (now (out .entry)) at (plateLine plate) ⌝ }
-{
-    let numbers = [plate.left, plate.top, plate.right, plate.bottom];
-    write_line(out, at, b'P', &numbers)
-}
-
-// C: a column's index, from 0, and its width.
-pub fn column_line(out: &mut [u8], at: usize, index: i32, width: i32) -> bool
-    ensures { λ r. ⌜ (r, now (out .exit)) ≡ lineWritten (now (out .entry)) at (columnLine index width) ⌝ }
-{
-    let numbers = [index, width];
-    write_line(out, at, b'C', &numbers)
-}
-
-// D: a row's index, from 0, and its height.
-pub fn row_line(out: &mut [u8], at: usize, index: i32, height: i32) -> bool
-    ensures { λ r. ⌜ (r, now (out .exit)) ≡ lineWritten (now (out .entry)) at (rowLine index height) ⌝ }
-{
-    let numbers = [index, height];
-    write_line(out, at, b'D', &numbers)
-}
-
-// X: the refusal's number, and the record's, from 1.
-pub fn refusal_line(out: &mut [u8], at: usize, number: i32, record: i32) -> bool
-    ensures { λ r. ⌜ (r, now (out .exit)) ≡ lineWritten (now (out .entry)) at (refusalLine number «record») ⌝ }
-{
-    let numbers = [number, record];
-    write_line(out, at, b'X', &numbers)
 }

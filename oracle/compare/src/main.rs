@@ -39,30 +39,61 @@ const FEWEST: u64 = if cfg!(feature = "placer") {
     20_000_000
 };
 
-/// `--seed N` and `--times K`.
-fn arguments() -> Result<(u64, u64), String> {
-    let (mut seed, mut times) = (SEED, 1);
+const USAGE: &str = "usage: compare [--seed N] [--times K], or compare --answers";
+
+struct Arguments {
+    seed: u64,
+    times: u64,
+    /// Write the fixed list instead of comparing.
+    answers: bool,
+}
+
+fn arguments() -> Result<Arguments, String> {
+    let mut given = Arguments {
+        seed: SEED,
+        times: 1,
+        answers: false,
+    };
     let mut words = env::args().skip(1);
     while let Some(word) = words.next() {
         let place = match word.as_str() {
-            "--seed" => &mut seed,
-            "--times" => &mut times,
+            "--answers" => {
+                given.answers = true;
+                continue;
+            }
+            "--seed" => &mut given.seed,
+            "--times" => &mut given.times,
             _ => return Err(format!("unknown argument {word}")),
         };
         let number = words.next().and_then(|n| n.parse().ok());
         *place = number.ok_or_else(|| format!("{word} needs a whole number"))?;
     }
-    Ok((seed, times))
+    Ok(given)
+}
+
+#[cfg(feature = "placer")]
+fn write_answers() -> Result<(), String> {
+    sheet::write_answers().map_err(|why| why.to_string())
+}
+
+#[cfg(not(feature = "placer"))]
+fn write_answers() -> Result<(), String> {
+    Err("the answers are those of placer.rs, which is not here".into())
 }
 
 fn main() -> ExitCode {
-    let (seed, times) = match arguments() {
-        Ok(given) => given,
-        Err(why) => {
-            eprintln!("compare: {why}; usage: compare [--seed N] [--times K]");
-            return ExitCode::from(2);
-        }
-    };
+    let result = arguments().map_err(|why| format!("{why}; {USAGE}"));
+    let result = result.and_then(|given| match given.answers {
+        true => write_answers().map(|()| ExitCode::SUCCESS),
+        false => Ok(compare(given.seed, given.times)),
+    });
+    result.unwrap_or_else(|why| {
+        eprintln!("compare: {why}");
+        ExitCode::from(2)
+    })
+}
+
+fn compare(seed: u64, times: u64) -> ExitCode {
     let mut tally = Tally::new(seed, times);
     emath_ops::compare(&mut tally);
     emath_align::compare(&mut tally);

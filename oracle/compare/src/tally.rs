@@ -54,6 +54,12 @@ impl Shown for usize {
     }
 }
 
+impl Shown for str {
+    fn show(&self) -> String {
+        self.into()
+    }
+}
+
 impl Shown for () {
     fn show(&self) -> String {
         "nothing".into()
@@ -193,14 +199,31 @@ impl Tally {
     }
 
     /// Counts one case, and shows it where the two sides differ.
-    pub fn agree<I: Shown, T: Same>(&mut self, name: &str, case: &I, ours: &T, theirs: &T) -> bool {
+    pub fn agree<I: Shown + ?Sized, T: Same>(
+        &mut self,
+        name: &str,
+        case: &I,
+        ours: &T,
+        theirs: &T,
+    ) -> bool {
+        self.agree_as(name, case, ["Rattle", "Rust"], [ours, theirs])
+    }
+
+    /// The same for other sides than the Rattle and the Rust.
+    pub fn agree_as<I: Shown + ?Sized, T: Same>(
+        &mut self,
+        name: &str,
+        case: &I,
+        sides: [&str; 2],
+        [one, other]: [&T; 2],
+    ) -> bool {
         self.cases += 1;
-        let same = ours.same(theirs);
+        let same = one.same(other);
         self.differences += u64::from(!same);
         if !same && self.differences <= SHOWN {
             println!("differs: {name} of {}", case.show());
-            println!("  Rattle {}", ours.show());
-            println!("  Rust   {}", theirs.show());
+            println!("  {:6} {}", sides[0], one.show());
+            println!("  {:6} {}", sides[1], other.show());
         }
         same
     }

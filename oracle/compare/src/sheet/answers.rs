@@ -180,3 +180,18 @@ impl Same for Written {
         self.written == other.written && self.bytes == other.bytes
     }
 }
+
+/// A list, or a file of them.
+pub struct Bytes(pub Vec<u8>);
+
+impl Shown for Bytes {
+    fn show(&self) -> String {
+        self.0.escape_ascii().to_string()
+    }
+}
+
+impl Same for Bytes {
+    fn same(&self, other: &Self) -> bool {
+        self.0 == other.0
+    }
+}

@@ -15,7 +15,7 @@ struct Sheet<'a> {
 }
 
 /// A record's letter and its fields; nothing is a blank one.
-fn line(letter: u8, fields: &[Option<i32>]) -> Vec<u8> {
+pub fn line(letter: u8, fields: &[Option<i32>]) -> Vec<u8> {
     let mut line = vec![letter];
     for field in fields {
         let text = field.map_or(String::new(), |n| n.to_string());
@@ -25,9 +25,14 @@ fn line(letter: u8, fields: &[Option<i32>]) -> Vec<u8> {
     line
 }
 
-fn numbers(letter: u8, fields: &[i32]) -> Vec<u8> {
+pub fn numbers(letter: u8, fields: &[i32]) -> Vec<u8> {
     let fields = Vec::from_iter(fields.iter().copied().map(Some));
     line(letter, &fields)
+}
+
+/// A grid of which only the start row is named.
+pub fn grid_from(start_row: i32) -> Vec<u8> {
+    line(b'G', &[Some(0), Some(0), None, None, None, Some(start_row)])
 }
 
 impl Sheet<'_> {

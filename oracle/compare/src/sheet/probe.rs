@@ -9,6 +9,10 @@ use crate::grid::port::{NOWHERE, UNTOUCHED_MEMORY};
 #[cfg(feature = "placer")]
 use crate::probe::UNTOUCHED;
 
+/// What a list is printed into: room for 512 W, P, 32 C and 128 D.
+#[cfg(feature = "placer")]
+pub const LIST_ROOM: usize = 40_802;
+
 unsafe extern "C" {
     fn field_read(text: *const u8, len: usize, at: usize, limit: u32, value: &mut [i32; 1]) -> u8;
     fn field_write(out: *mut u8, len: usize, at: usize, z: i32) -> u8;
@@ -36,6 +40,8 @@ unsafe extern "C" {
         out_counts: &mut [usize; 2],
         places: &mut [usize; 2],
     ) -> u8;
+    #[cfg(feature = "placer")]
+    fn listing_print(text: *const u8, len: usize, out: &mut [u8; LIST_ROOM]) -> usize;
     fn line_write(
         out: *mut u8,
         len: usize,
@@ -121,4 +127,10 @@ pub fn pass(given: &Given) -> Passed {
         save: save as u8,
         out,
     }
+}
+
+/// The length of the list, which stands at the front of `out`.
+#[cfg(feature = "placer")]
+pub fn print(text: &[u8], out: &mut [u8; LIST_ROOM]) -> usize {
+    unsafe { listing_print(text.as_ptr(), text.len(), out) }
 }

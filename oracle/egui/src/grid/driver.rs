@@ -119,6 +119,13 @@ pub(crate) fn after_save(ctx: &Context) -> (Memory, bool) {
     (Memory::of(&stored), saved)
 }
 
+/// What the pass remembers, and whether `save` stored it: what it does not store is there already.
+#[cfg(feature = "placer")]
+pub(crate) fn remembered(grid: &GridLayout) -> (Memory, bool) {
+    let saved = grid.ctx.data_mut(|data| data.take_inserted());
+    (Memory::of(&grid.curr_state), saved)
+}
+
 /// A `GridLayout`, which reads and changes its own state only.
 pub struct Running(GridLayout);
 
@@ -149,6 +156,11 @@ impl Running {
 
     pub fn grid(&self) -> Grid {
         grid(&self.0)
+    }
+
+    #[cfg(feature = "placer")]
+    pub(crate) fn into_layout(self) -> GridLayout {
+        self.0
     }
 
     pub fn prev_col_width(&self, col: usize) -> f32 {

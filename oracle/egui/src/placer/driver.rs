@@ -72,6 +72,17 @@ impl Running {
         self.0.set_grid(grids::grid_layout(grid));
     }
 
+    /// The same for a grid that is running already.
+    pub fn put_grid(&mut self, grid: grids::Running) {
+        self.0.set_grid(grid.into_layout());
+    }
+
+    /// What this pass remembers, and whether `save_grid` stored it; nothing without a grid.
+    pub fn saved_grid(&mut self) -> Option<(Memory, bool)> {
+        self.0.save_grid();
+        self.0.grid().map(grids::remembered)
+    }
+
     /// What is stored afterwards, and whether `save_grid` stored it; nothing without a grid.
     pub fn save_grid(&mut self) -> (Memory, bool) {
         let ctx = self.0.grid().map(grids::before_save);

@@ -5,3 +5,4 @@ pub mod Remembered
 pub mod Cells
 pub mod Fair
 pub mod Advances
+pub mod Unfaulted

@@ -1,16 +1,17 @@
 // GridLayout, in grid.rs's order, before anything is refused.
 use crate::GridLayout;
-use crate::MAX_COLS;
-use crate::MAX_ROWS;
 use crate::Memory;
 use crate::Moved;
 use crate::Saved;
+use crate::lent;
+use crate::lent::bare;
+use crate::lent::whole;
 use crate::memories::col_width;
 use crate::memories::empty_memory;
+use crate::memories::heights_of;
 use crate::memories::row_height;
 use crate::memories::same_memory;
-use crate::memories::set_min_col_width;
-use crate::memories::set_min_row_height;
+use crate::memories::widths_of;
 use emath::Align2;
 use emath::Pos2;
 use emath::Rect;
@@ -21,10 +22,10 @@ use emath::num::at_most;
 use emath::num::max;
 use layout::Region;
 ghost use mathlib.Core.Path.{_≡_};
-ghost use Prim.Native.Nat.{_+_, _<_};
+ghost use Prim.Native.Nat.{_+_};
 ghost use lib.Dec.{eqb};
 ghost use Rattle.emath.specs.Domain.{finite};
-ghost use Rattle.grid.specs.Grids.{knownMemory, newGrid, emptyGrid, prevColWidth, prevRowHeight, lastWidth, otherWidth, cellWidth, cellHeight, availableRect, nextWidth, nextCell, alignSizeWithinRect, noted, advanced, advance, rowEnded, endRow, save};
+ghost use Rattle.grid.specs.Grids.{knownMemory, newGrid, emptyGrid, prevColWidth, prevRowHeight, lastWidth, otherWidth, cellWidth, cellHeight, availableRect, nextCell, alignSizeWithinRect, advance, endRow, save};
 
 pub fn known_memory(known: bool, memory: Memory) -> Memory
     ensures { λ m. ⌜ m ≡ knownMemory known memory ⌝ }
@@ -174,30 +175,12 @@ pub fn available_rect(grid: GridLayout, region: Region) -> Rect
     )
 }
 
-// A sizing pass is as narrow as can be.
-fn next_width(grid: GridLayout) -> f32
-    ensures { λ r. ⌜ r ≡ nextWidth grid ⌝ }
-{
-    if grid.sizing_pass {
-        return 0.0;
-    }
-    col_width(grid.prev_state, grid.col, 0.0)
-}
-
 pub fn next_cell(grid: GridLayout, cursor: Rect, child_size: Vec2) -> Rect
     ensures { λ r. ⌜ r ≡ nextCell 5 grid cursor «child_size» ⌝ }
 {
-    let width = next_width(grid);
-    let height = prev_row_height(grid, grid.row);
-    let size = Vec2 {
-        x: max(child_size.x, width),
-        y: max(child_size.y, height),
-    };
-    let min = Pos2 {
-        x: cursor.left,
-        y: cursor.top,
-    };
-    Rect::from_min_size(min, size).round_ui()
+    let widths = widths_of(grid.prev_state);
+    let heights = heights_of(grid.prev_state);
+    lent::next_cell(bare(grid), &widths, &heights, cursor, child_size)
 }
 
 pub fn align_size_within_rect(size: Vec2, frame: Rect) -> Rect
@@ -207,70 +190,37 @@ pub fn align_size_within_rect(size: Vec2, frame: Rect) -> Rect
     a.align_size_within_rect(size, frame).round_ui()
 }
 
-// What this pass remembers after a widget.
-fn noted_memory(grid: GridLayout, widget: Rect) -> Memory
-    ensures { λ m. ⌜ m ≡ noted grid widget ⌝ }
-{
-    let width = max(widget.width(), grid.min_cell_size.x);
-    let height = max(widget.height(), grid.min_cell_size.y);
-    set_min_row_height(
-        set_min_col_width(grid.curr_state, grid.col, width),
-        grid.row,
-        height,
-    )
-}
-
-fn advanced_grid(grid: GridLayout, cursor: Rect, widget: Rect) -> Moved
-    requires { ⌜ grid .col < 32 ⌝ }
-    ensures { λ m. ⌜ m ≡ advanced grid cursor widget ⌝ }
-{
-    let memory = noted_memory(grid, widget);
-    let mut c = cursor;
-    c.left = cursor.left + (prev_col_width(grid, grid.col) + grid.spacing.x);
-    let mut g = grid;
-    g.curr_state = memory;
-    g.col = grid.col + 1;
-    Moved { grid: g, cursor: c }
-}
-
 // Where the grid has no room nothing changes.
 pub fn advance(grid: GridLayout, cursor: Rect, widget: Rect) -> Moved
     ensures { λ m. ⌜ m ≡ advance grid cursor widget ⌝ }
 {
-    if grid.col < MAX_COLS {
-        if grid.row < MAX_ROWS {
-            return advanced_grid(grid, cursor, widget);
-        }
-    }
+    let prev_widths = widths_of(grid.prev_state);
+    let mut widths = widths_of(grid.curr_state);
+    let mut heights = heights_of(grid.curr_state);
+    let b = bare(grid);
+    let c = lent::advanced_cursor(b, &prev_widths, cursor);
+    let g = lent::advance(b, &mut widths, &mut heights, widget);
     Moved {
-        grid: grid,
-        cursor: cursor,
+        grid: whole(g, grid.prev_state, widths, heights),
+        cursor: c,
     }
-}
-
-fn row_ended(grid: GridLayout, cursor: Rect) -> Moved
-    requires { ⌜ grid .row < 128 ⌝ }
-    ensures { λ m. ⌜ m ≡ rowEnded grid cursor ⌝ }
-{
-    let height = row_height(grid.curr_state, grid.row, grid.min_cell_size.y);
-    let mut c = cursor;
-    c.left = grid.initial_available.left;
-    c.top = cursor.top + grid.spacing.y + height;
-    let mut g = grid;
-    g.col = 0;
-    g.row = grid.row + 1;
-    Moved { grid: g, cursor: c }
 }
 
 pub fn end_row(grid: GridLayout, cursor: Rect) -> Moved
     ensures { λ m. ⌜ m ≡ endRow grid cursor ⌝ }
 {
-    if grid.row < MAX_ROWS {
-        return row_ended(grid, cursor);
-    }
+    let heights = heights_of(grid.curr_state);
+    let b = bare(grid);
+    let c = lent::ended_cursor(b, &heights, cursor);
+    let g = lent::end_row(b);
     Moved {
-        grid: grid,
-        cursor: cursor,
+        grid: whole(
+            g,
+            grid.prev_state,
+            widths_of(grid.curr_state),
+            heights,
+        ),
+        cursor: c,
     }
 }
 

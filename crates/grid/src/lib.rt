@@ -7,6 +7,7 @@ use emath::Vec2;
 mod entries;
 pub mod faults;
 pub mod grids;
+pub mod lent;
 pub mod memories;
 mod operations;
 
@@ -35,6 +36,23 @@ pub struct GridLayout {
     pub spacing: Vec2,
     pub min_cell_size: Vec2,
     // Each may be +infinity.
+    pub max_cell_size: Vec2,
+    pub col: usize,
+    pub row: usize,
+}
+
+// A grid without the arrays of its memories, which are lent beside it: what a pass carries from record to record.
+pub struct BareGrid {
+    pub is_first_frame: bool,
+    pub prev_cols: usize,
+    pub prev_rows: usize,
+    pub cols: usize,
+    pub rows: usize,
+    pub initial_available: Rect,
+    pub sizing_pass: bool,
+    pub num_columns: usize,
+    pub spacing: Vec2,
+    pub min_cell_size: Vec2,
     pub max_cell_size: Vec2,
     pub col: usize,
     pub row: usize,

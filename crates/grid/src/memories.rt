@@ -22,6 +22,21 @@ pub fn empty_memory() -> Memory
     }
 }
 
+// The arrays, for lending.
+pub fn widths_of(memory: Memory) -> [f32; 32]
+    ensures { λ xs. ⌜ xs ≡ memory .«col_widths» ⌝ }
+{
+    let xs = memory.col_widths;
+    xs
+}
+
+pub fn heights_of(memory: Memory) -> [f32; 128]
+    ensures { λ xs. ⌜ xs ≡ memory .«row_heights» ⌝ }
+{
+    let xs = memory.row_heights;
+    xs
+}
+
 // A count, no more than the array has.
 pub fn capped_count(n: usize, room: usize) -> usize
     ensures { λ r. ⌜ r ≡ capped n room ⌝ }
@@ -29,7 +44,7 @@ pub fn capped_count(n: usize, room: usize) -> usize
     if n < room { n } else { room }
 }
 
-fn raised_count(n: usize, least: usize) -> usize
+pub fn raised_count(n: usize, least: usize) -> usize
     ensures { λ r. ⌜ r ≡ raisedCount n least ⌝ }
 {
     if n < least { least } else { n }

@@ -1,0 +1,37 @@
+-- A grid whose arrays are lent beside it: the memory and the grid that the counts and the arrays make.
+use mathlib.Core.List.{List}
+use Prim.Native.Nat.{ℕ}
+use lib.Ieee.{Float}
+use Rattle.emath.specs.Rectangles.{zeroF, maxF, width, height}
+use Rattle.emath.specs.declared.Rect.{Rect}
+use Rattle.emath.specs.declared.Vec2.{Vec2}
+use Rattle.grid.specs.Memories.{colWidth, rowHeight}
+use Rattle.grid.specs.declared.Memory.{Memory}
+use Rattle.grid.specs.declared.GridLayout.{GridLayout}
+use Rattle.grid.specs.declared.BareGrid.{BareGrid}
+
+abbrev pub memoryOf : List Float → ℕ → List Float → ℕ → Memory
+memoryOf ws cols hs rows = record { «col_widths» = ws; cols = cols; «row_heights» = hs; rows = rows }
+
+-- the previous widths and heights, then those of this pass
+abbrev pub gridOf : BareGrid → List Float → List Float → List Float → List Float → GridLayout
+gridOf g pw ph ws hs = record {
+  «is_first_frame» = g .«is_first_frame»;
+  «prev_state» = memoryOf pw (g .«prev_cols») ph (g .«prev_rows»);
+  «curr_state» = memoryOf ws (g .cols) hs (g .rows);
+  «initial_available» = g .«initial_available»;
+  «sizing_pass» = g .«sizing_pass»;
+  «num_columns» = g .«num_columns»;
+  spacing = g .spacing;
+  «min_cell_size» = g .«min_cell_size»;
+  «max_cell_size» = g .«max_cell_size»;
+  col = g .col;
+  row = g .row;
+}
+
+-- what an advance leaves at its column and its row
+unfoldable pub notedSize : GridLayout → Rect → Vec2
+notedSize g w = record {
+  x = maxF (colWidth (g .«curr_state») (g .col) zeroF) (maxF (width w) (g .«min_cell_size» .x));
+  y = maxF (rowHeight (g .«curr_state») (g .row) zeroF) (maxF (height w) (g .«min_cell_size» .y));
+}

@@ -9,7 +9,7 @@ use Rattle.emath.specs.Rectangles.{zeroF}
 use Rattle.emath.specs.declared.Rect.{Rect}
 use Rattle.grid.specs.Grids as grid-rules
 use Rattle.grid.specs.declared.GridLayout.{GridLayout}
-use Rattle.placer.specs.Rules.{forceSetMinRect, setCursor, advanceCursor, setRowHeight, expandToIncludeRect, expandToIncludeX, expandToIncludeY, setMaxWidth, setMaxHeight, grownAcross, grownDown, setMinWidth, setMinHeight, nextWidgetSpaceIgnoreWrapJustify}
+use Rattle.placer.specs.Rules.{withRegion, forceSetMinRect, setCursor, advanceCursor, setRowHeight, expandToIncludeRect, expandToIncludeX, expandToIncludeY, setMaxWidth, setMaxHeight, grownAcross, grownDown, setMinWidth, setMinHeight, nextWidgetSpaceIgnoreWrapJustify}
 use Rattle.placer.specs.declared.Placer.{Placer}
 
 module _ (p : Placer) where
@@ -65,6 +65,25 @@ module _ (p : Placer) where
       go true = refl
       go false = refl
 
+-- ---- nothing but the region
+module _ (k : ℕ) (p : Placer) where
+  pub min-width-region : (w : Float) → withRegion p (setMinWidth k p w .region) ≡ setMinWidth k p w
+  unfolding setMinWidth grownAcross expandToIncludeX
+  min-width-region w = go (le w zeroF)
+    where
+      go : (b : Bool) → withRegion p (cond b p (grownAcross p (nextWidgetSpaceIgnoreWrapJustify k p (record { x = w; y = zeroF }))) .region) ≡ cond b p (grownAcross p (nextWidgetSpaceIgnoreWrapJustify k p (record { x = w; y = zeroF })))
+      go true = refl
+      go false = refl
+
+  pub min-height-region : (h : Float) → withRegion p (setMinHeight k p h .region) ≡ setMinHeight k p h
+  unfolding setMinHeight grownDown expandToIncludeY
+  min-height-region h = go (le h zeroF)
+    where
+      go : (b : Bool) → withRegion p (cond b p (grownDown p (nextWidgetSpaceIgnoreWrapJustify k p (record { x = zeroF; y = h }))) .region) ≡ cond b p (grownDown p (nextWidgetSpaceIgnoreWrapJustify k p (record { x = zeroF; y = h })))
+      go true = refl
+      go false = refl
+
+-- ---- the memory that the pass was given
 pub advance-keeps-given : (g : GridLayout) (c w : Rect) → grid-rules.advance g c w .grid .«prev_state» ≡ g .«prev_state»
 unfolding grid-rules.advance grid-rules.advanced
 advance-keeps-given g c w = go (ltb (g .col) 32 && ltb (g .row) 128)

@@ -1,5 +1,7 @@
 -- The laws, in the order of the argument. Layers above cite them as Rattle.placer.proofs.NAME.
 pub mod Accepted
+pub mod Parts
+pub mod Unfaulted
 pub mod WholePlacers
 pub mod WholeCalls
 pub mod WholeGrids

@@ -14,6 +14,10 @@ use layout::Layout;
 use layout::faults::region_fault;
 use layout::faults::zero_region;
 ghost use mathlib.Core.Path.{_≡_};
+ghost use mathlib.Core.Bool.{_&&_};
+ghost use mathlib.Core.List.{[], _∷_};
+ghost use lib.Dec.{leb};
+ghost use Rattle.emath.specs.Refusals.{when, least};
 ghost use Rattle.placer.specs.Refusals.{gridPart, placerFault, advanceFault, endRowFault, zeroPlacer, placerAnswer, changed};
 
 // The grid's share of the state's number.
@@ -36,21 +40,34 @@ pub fn placer_fault(placer: Placer) -> u8
     lesser_number(region_fault(d, placer.region), grid_part(placer))
 }
 
+// No room for a cell, or for a row.
+pub fn cell_fault(has_grid: bool, col: usize, row: usize) -> u8
+    ensures { λ n. ⌜ n ≡ least (when («has_grid» && leb 32 col) 8 ∷ when («has_grid» && leb 128 row) 8 ∷ []) ⌝ }
+{
+    lesser_number(
+        number_when(has_grid & (MAX_COLS <= col), 8),
+        row_fault(has_grid, row),
+    )
+}
+
+pub fn row_fault(has_grid: bool, row: usize) -> u8
+    ensures { λ n. ⌜ n ≡ when («has_grid» && leb 128 row) 8 ⌝ }
+{
+    number_when(has_grid & (MAX_ROWS <= row), 8)
+}
+
 pub fn advance_fault(placer: Placer) -> u8
     ensures { λ n. ⌜ n ≡ advanceFault placer ⌝ }
 {
     let g = placer.grid;
-    lesser_number(
-        number_when(placer.has_grid & (MAX_COLS <= g.col), 8),
-        number_when(placer.has_grid & (MAX_ROWS <= g.row), 8),
-    )
+    cell_fault(placer.has_grid, g.col, g.row)
 }
 
 pub fn end_row_fault(placer: Placer) -> u8
     ensures { λ n. ⌜ n ≡ endRowFault placer ⌝ }
 {
     let g = placer.grid;
-    number_when(placer.has_grid & (MAX_ROWS <= g.row), 8)
+    row_fault(placer.has_grid, g.row)
 }
 
 // What `new` answers when it is refused.

@@ -1,12 +1,14 @@
 // egui's placer.rs: a layout or a grid, with the region that it fills.
 // The unchecked rules are total functions, in `rules` and `limits`; `operations` holds the public calls, which refuse by document 01's
 // table with the numbers of `faults`.
+use grid::BareGrid;
 use grid::GridLayout;
 use layout::Layout;
 use layout::Region;
 
 pub mod faults;
 mod inspectors;
+pub mod lent;
 pub mod limits;
 mod operations;
 pub mod rules;
@@ -23,4 +25,17 @@ pub struct Placer {
 pub struct PlacerAnswer {
     pub number: u8,
     pub placer: Placer,
+}
+
+// A placer without the arrays of its grid's memories, which are lent beside it: what a pass carries from record to record.
+pub struct BarePlacer {
+    pub has_grid: bool,
+    pub grid: BareGrid,
+    pub layout: Layout,
+    pub region: Region,
+}
+
+pub struct BareAnswer {
+    pub number: u8,
+    pub placer: BarePlacer,
 }

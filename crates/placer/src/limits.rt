@@ -1,14 +1,19 @@
 // set_max_width and its like: a region that is limited or grown around the place of the next widget.
 use crate::Placer;
-use crate::rules::expand_to_include_x;
-use crate::rules::expand_to_include_y;
-use crate::rules::next_widget_space_ignore_wrap_justify;
 use crate::rules::with_region;
 use emath::Rect;
 use emath::Vec2;
+use layout::Layout;
 use layout::Region;
+use layout::regions::expand_to_include_x;
+use layout::regions::expand_to_include_y;
+use layout::widgets::next_widget_space_ignore_wrap_justify;
 ghost use mathlib.Core.Path.{_≡_};
-ghost use Rattle.placer.specs.Rules.{limitedAcross, limitedDown, setMaxWidth, setMaxHeight, grownAcross, grownDown, setMinWidth, setMinHeight};
+ghost use mathlib.Core.Bool.{Bool};
+ghost use Rattle.layout.specs.Rules.{expandToIncludeX, expandToIncludeY};
+ghost use Rattle.grid.specs.declared.GridLayout.{GridLayout};
+ghost use Rattle.placer.specs.Rules.{limitedAcross, limitedDown, setMaxWidth, setMaxHeight, setMinWidth, setMinHeight};
+ghost use Rattle.placer.specs.Lent.{placerWith};
 
 // Not below min_rect.
 fn limited_across(region: Region, rect: Rect) -> Region
@@ -43,53 +48,81 @@ fn limited_down(region: Region, rect: Rect) -> Region
     g
 }
 
+pub fn max_width(layout: Layout, region: Region, width: f32) -> Region
+    ensures { λ g. ⌜ ((b : Bool) (m : GridLayout) → g ≡ setMaxWidth 5 (placerWith b m layout region) width .region) ⌝ }
+{
+    limited_across(
+        region,
+        next_widget_space_ignore_wrap_justify(layout, region, Vec2 { x: width, y: 0.0 }),
+    )
+}
+
+pub fn max_height(layout: Layout, region: Region, height: f32) -> Region
+    ensures { λ g. ⌜ ((b : Bool) (m : GridLayout) → g ≡ setMaxHeight 5 (placerWith b m layout region) height .region) ⌝ }
+{
+    limited_down(
+        region,
+        next_widget_space_ignore_wrap_justify(layout, region, Vec2 { x: 0.0, y: height }),
+    )
+}
+
 pub fn set_max_width(placer: Placer, width: f32) -> Placer
     ensures { λ p. ⌜ p ≡ setMaxWidth 5 placer width ⌝ }
 {
-    let rect = next_widget_space_ignore_wrap_justify(placer, Vec2 { x: width, y: 0.0 });
-    with_region(placer, limited_across(placer.region, rect))
+    with_region(placer, max_width(placer.layout, placer.region, width))
 }
 
 pub fn set_max_height(placer: Placer, height: f32) -> Placer
     ensures { λ p. ⌜ p ≡ setMaxHeight 5 placer height ⌝ }
 {
-    let rect = next_widget_space_ignore_wrap_justify(placer, Vec2 { x: 0.0, y: height });
-    with_region(placer, limited_down(placer.region, rect))
+    with_region(placer, max_height(placer.layout, placer.region, height))
 }
 
-fn grown_across(placer: Placer, rect: Rect) -> Placer
-    ensures { λ p. ⌜ p ≡ grownAcross placer rect ⌝ }
+fn grown_across(region: Region, rect: Rect) -> Region
+    ensures { λ g. ⌜ g ≡ expandToIncludeX (expandToIncludeX region (rect .left)) (rect .right) ⌝ }
 {
-    expand_to_include_x(expand_to_include_x(placer, rect.left), rect.right)
+    expand_to_include_x(expand_to_include_x(region, rect.left), rect.right)
 }
 
-fn grown_down(placer: Placer, rect: Rect) -> Placer
-    ensures { λ p. ⌜ p ≡ grownDown placer rect ⌝ }
+fn grown_down(region: Region, rect: Rect) -> Region
+    ensures { λ g. ⌜ g ≡ expandToIncludeY (expandToIncludeY region (rect .top)) (rect .bottom) ⌝ }
 {
-    expand_to_include_y(expand_to_include_y(placer, rect.top), rect.bottom)
+    expand_to_include_y(expand_to_include_y(region, rect.top), rect.bottom)
 }
 
 // 0 or less changes nothing.
+pub fn min_width(layout: Layout, region: Region, width: f32) -> Region
+    ensures { λ g. ⌜ ((b : Bool) (m : GridLayout) → g ≡ setMinWidth 5 (placerWith b m layout region) width .region) ⌝ }
+{
+    if width <= 0.0 {
+        return region;
+    }
+    grown_across(
+        region,
+        next_widget_space_ignore_wrap_justify(layout, region, Vec2 { x: width, y: 0.0 }),
+    )
+}
+
+pub fn min_height(layout: Layout, region: Region, height: f32) -> Region
+    ensures { λ g. ⌜ ((b : Bool) (m : GridLayout) → g ≡ setMinHeight 5 (placerWith b m layout region) height .region) ⌝ }
+{
+    if height <= 0.0 {
+        return region;
+    }
+    grown_down(
+        region,
+        next_widget_space_ignore_wrap_justify(layout, region, Vec2 { x: 0.0, y: height }),
+    )
+}
+
 pub fn set_min_width(placer: Placer, width: f32) -> Placer
     ensures { λ p. ⌜ p ≡ setMinWidth 5 placer width ⌝ }
 {
-    if width <= 0.0 {
-        return placer;
-    }
-    grown_across(
-        placer,
-        next_widget_space_ignore_wrap_justify(placer, Vec2 { x: width, y: 0.0 }),
-    )
+    with_region(placer, min_width(placer.layout, placer.region, width))
 }
 
 pub fn set_min_height(placer: Placer, height: f32) -> Placer
     ensures { λ p. ⌜ p ≡ setMinHeight 5 placer height ⌝ }
 {
-    if height <= 0.0 {
-        return placer;
-    }
-    grown_down(
-        placer,
-        next_widget_space_ignore_wrap_justify(placer, Vec2 { x: 0.0, y: height }),
-    )
+    with_region(placer, min_height(placer.layout, placer.region, height))
 }

@@ -1,15 +1,11 @@
 -- `placer::limits::set_min_height` meets its contract. Assumes nothing.
-use Rattle.placer.specs.Rules.{setMinHeight}
+use Rattle.placer.proofs.Kept.{min-height-region}
+use borrow.Author.Needs.{needs}
 use Rattle.placer.proofs.limits.set_min_height.Statement.{statement}
 use Rattle.placer.proofs.limits.set_min_height.Tie as tie
 
 returns : tie.Need-returns
-unfolding setMinHeight
-returns c = rw (c .if1 .taken)
-
-returns-2 : tie.Need-returns-2
-unfolding setMinHeight
-returns-2 c = rw (c .before .before .if1 .left, c .grown-down .ensures, c .before .next-widget-space-ignore-wrap-justify .ensures)
+returns c = let a = c .before .before .args in rw (c .with-region .ensures, c .before .min-height .ensures (a .placer .«has_grid») (a .placer .grid)) (min-height-region 5 (a .placer) (a .height))
 
 pub set-min-height-spec : {M : Type 1} → statement M
-set-min-height-spec = tie.close (tie.spec returns (λ c κs. tt) (λ c κs. tt) returns-2)
+set-min-height-spec = tie.close (tie.spec (λ c κs. search needs) (λ c κs. search needs) returns)

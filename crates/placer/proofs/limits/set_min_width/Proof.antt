@@ -1,15 +1,11 @@
 -- `placer::limits::set_min_width` meets its contract. Assumes nothing.
-use Rattle.placer.specs.Rules.{setMinWidth}
+use Rattle.placer.proofs.Kept.{min-width-region}
+use borrow.Author.Needs.{needs}
 use Rattle.placer.proofs.limits.set_min_width.Statement.{statement}
 use Rattle.placer.proofs.limits.set_min_width.Tie as tie
 
 returns : tie.Need-returns
-unfolding setMinWidth
-returns c = rw (c .if1 .taken)
-
-returns-2 : tie.Need-returns-2
-unfolding setMinWidth
-returns-2 c = rw (c .before .before .if1 .left, c .grown-across .ensures, c .before .next-widget-space-ignore-wrap-justify .ensures)
+returns c = let a = c .before .before .args in rw (c .with-region .ensures, c .before .min-width .ensures (a .placer .«has_grid») (a .placer .grid)) (min-width-region 5 (a .placer) (a .width))
 
 pub set-min-width-spec : {M : Type 1} → statement M
-set-min-width-spec = tie.close (tie.spec returns (λ c κs. tt) (λ c κs. tt) returns-2)
+set-min-width-spec = tie.close (tie.spec (λ c κs. search needs) (λ c κs. search needs) returns)

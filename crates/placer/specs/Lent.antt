@@ -1,0 +1,34 @@
+-- A placer whose grid's arrays are lent beside it.
+use Prim.Native.Nat.{ℕ}
+use mathlib.Core.Bool.{Bool, cond}
+use mathlib.Core.List.{List}
+use lib.Ieee.{Float}
+use Rattle.emath.specs.Refusals.{lesser, extentFault}
+use Rattle.emath.specs.declared.Rect.{Rect}
+use Rattle.layout.specs.Refusals.{regionFault}
+use Rattle.layout.specs.declared.Layout.{Layout}
+use Rattle.layout.specs.declared.Region.{Region}
+use Rattle.grid.specs.Lent.{gridOf, notedSize}
+use Rattle.grid.specs.declared.GridLayout.{GridLayout}
+use Rattle.placer.specs.declared.Placer.{Placer}
+use Rattle.placer.specs.declared.PlacerAnswer.{PlacerAnswer}
+use Rattle.placer.specs.declared.BarePlacer.{BarePlacer}
+use Rattle.placer.specs.declared.BareAnswer.{BareAnswer}
+
+-- the previous widths and heights, then those of this pass
+abbrev pub placerOf : BarePlacer → List Float → List Float → List Float → List Float → Placer
+placerOf p pw ph ws hs = record { «has_grid» = p .«has_grid»; grid = gridOf (p .grid) pw ph ws hs; layout = p .layout; region = p .region }
+
+abbrev pub answerOf : BareAnswer → List Float → List Float → List Float → List Float → PlacerAnswer
+answerOf a pw ph ws hs = record { number = a .number; placer = placerOf (a .placer) pw ph ws hs }
+
+-- any placer of a layout and a region
+abbrev pub placerWith : Bool → GridLayout → Layout → Region → Placer
+placerWith b g l r = record { «has_grid» = b; grid = g; layout = l; region = r }
+
+-- an advance of a placer without fault leaves no fault but the region's, or that of an entry which it raises
+unfoldable pub raisedPart : Placer → Rect → ℕ
+raisedPart p w = cond (p .«has_grid») (lesser (extentFault (notedSize (p .grid) w .x)) (extentFault (notedSize (p .grid) w .y))) 0
+
+unfoldable pub pastPart : Placer → Region → Rect → ℕ
+pastPart p r w = lesser (regionFault (p .layout .«main_dir») r) (raisedPart p w)

@@ -214,12 +214,7 @@ pub fn end_row(grid: GridLayout, cursor: Rect) -> Moved
     let c = lent::ended_cursor(b, &heights, cursor);
     let g = lent::end_row(b);
     Moved {
-        grid: whole(
-            g,
-            grid.prev_state,
-            widths_of(grid.curr_state),
-            heights,
-        ),
+        grid: whole(g, grid.prev_state, widths_of(grid.curr_state), heights),
         cursor: c,
     }
 }

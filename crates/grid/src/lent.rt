@@ -132,12 +132,7 @@ fn note(grid: BareGrid, widths: &mut [f32], heights: &mut [f32], widget: Rect) -
     let row = grid.row;
     let cols = grid.cols;
     let rows = grid.rows;
-    raise(
-        widths,
-        cols,
-        col,
-        max(widget.width(), grid.min_cell_size.x),
-    );
+    raise(widths, cols, col, max(widget.width(), grid.min_cell_size.x));
     raise(
         heights,
         rows,

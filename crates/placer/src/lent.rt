@@ -15,6 +15,7 @@ use emath::faults::number_when;
 use emath::faults::or_else;
 use emath::faults::outside_domain;
 use emath::faults::pair_fault;
+use grid::Memory;
 use grid::grids;
 use grid::lent;
 use layout::Region;
@@ -49,6 +50,20 @@ pub fn bare(placer: Placer) -> BarePlacer
     }
 }
 
+// The arrays of `prev` beside those of this pass.
+pub fn whole(placer: BarePlacer, prev: Memory, widths: [f32; 32], heights: [f32; 128]) -> Placer
+    ensures { λ p. ⌜ p ≡ placerOf placer (prev .«col_widths») (prev .«row_heights») widths heights ⌝ }
+{
+    let layout = placer.layout;
+    let region = placer.region;
+    Placer {
+        has_grid: placer.has_grid,
+        grid: lent::whole(placer.grid, prev, widths, heights),
+        layout: layout,
+        region: region,
+    }
+}
+
 // ---- a W
 pub fn next_space(
     placer: BarePlacer,
@@ -61,13 +76,7 @@ pub fn next_space(
 {
     let g = placer.region;
     if placer.has_grid {
-        return lent::next_cell(
-            placer.grid,
-            prev_widths,
-            prev_heights,
-            g.cursor,
-            child_size,
-        );
+        return lent::next_cell(placer.grid, prev_widths, prev_heights, g.cursor, child_size);
     }
     frames::next_frame(placer.layout, g, child_size, item_spacing)
 }
@@ -113,13 +122,7 @@ pub fn region_past(
 ) -> Region
     ensures { λ r. ⌜ ((ph ws hs : List Float) → r ≡ advanceAfterRects (placerOf placer (now («prev_widths» .entry)) ph ws hs) «frame_rect» «widget_rect» «item_spacing» .region) ⌝ }
 {
-    let c = cursor_past(
-        placer,
-        prev_widths,
-        frame_rect,
-        widget_rect,
-        item_spacing,
-    );
+    let c = cursor_past(placer, prev_widths, frame_rect, widget_rect, item_spacing);
     regions::expand_to_include_rect(regions::with_cursor(placer.region, c), frame_rect)
 }
 

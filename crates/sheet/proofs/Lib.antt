@@ -34,6 +34,7 @@ pub mod WholeEdges
 pub mod TextTicks
 pub mod PriceClause
 -- The call that runs.
+pub mod Stepping
 pub mod Slices
 pub mod Ticking
 pub mod Walking

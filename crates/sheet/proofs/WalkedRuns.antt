@@ -18,11 +18,10 @@ use Rattle.records.specs.declared.Step.{Step}
 use Rattle.records.specs.declared.Step.the-variants.{Widget, Space, RowHeight, MaxWidth, MaxHeight, MinWidth, MinHeight, RowEnd}
 use Rattle.records.specs.declared.Record.{Record}
 use Rattle.records.specs.declared.Record.the-variants as record-of
-use Rattle.sheet.specs.declared.Moved.{Moved}
 use Rattle.sheet.specs.Pass.{Cell, Stepped, Ran, widgetStep, stepped, followed, runFrom}
 use Rattle.sheet.specs.Texts.{stepsOf}
 use Rattle.sheet.specs.Slices.{eight, written}
-use Rattle.sheet.specs.Calls.{placement, stepMoved, recordMoved}
+use Rattle.sheet.specs.Calls.{Moved, placement, stepMoved, recordMoved}
 use Rattle.sheet.specs.Walks.{putAt, Walk, pick, done, walked}
 
 -- ---- stores one after the other

@@ -10,6 +10,7 @@ use lib.IntN.{ℤ}
 use lib.ListN.{length, drop, length-drop, drop-of-length-le}
 use Rattle.emath.specs.declared.Vec2.{Vec2}
 use Rattle.layout.specs.Steps.{WholeRect}
+use Rattle.placer.specs.Refusals.{placerFault}
 use Rattle.placer.specs.declared.Placer.{Placer}
 use Rattle.records.specs.Records.{recordOf, recordAt, rest, nextAt}
 use Rattle.records.specs.Sheets.{recordsFrom, widget, widgetStep, widgets}
@@ -19,11 +20,11 @@ use Rattle.records.specs.declared.Step.{Step}
 use Rattle.records.specs.declared.Step.the-variants.{Widget, Space, RowHeight, MaxWidth, MaxHeight, MinWidth, MinHeight, RowEnd}
 use Rattle.records.specs.declared.Record.{Record}
 use Rattle.records.specs.declared.Record.the-variants as record-of
-use Rattle.sheet.specs.declared.Moved.{Moved}
 use Rattle.sheet.specs.Pass.{cellOf}
-use Rattle.sheet.specs.Calls.{placement, stepMoved, recordMoved}
+use Rattle.sheet.specs.Calls.{Moved, placement, stepMoved, recordMoved}
 use Rattle.sheet.specs.Walks.{putAt, Walk, pick, done, walked}
 use Rattle.sheet.proofs.Runs.{widget-placed}
+use Rattle.sheet.proofs.Stepping.{moved-none}
 use Rattle.sheet.proofs.WholeEdges.{cell-whole}
 
 -- ---- a record that is a W, and no other, has a place
@@ -139,3 +140,6 @@ module _ (text : List ℕ) (sp : Vec2) (left n at w : ℕ) (p : Placer) (out : L
 
     pub moved-in-ticks : m .number ≡ 0 → 0 < m .placed → Whole m
     moved-in-ticks h l = subst Whole (sym em) (moved-whole p sp (recordAt text at) (ap (λ (x : Moved). x .number) (sym em) ∙ h) (subst (λ (x : Moved). 0 < x .placed) em l))
+
+    pub moved-unfaulted : m .number ≡ 0 → placerFault (m .placer) ≡ 0
+    moved-unfaulted h = subst (λ (x : Moved). placerFault (x .placer) ≡ 0) (sym em) (moved-none p sp (recordAt text at) (ap (λ (x : Moved). x .number) (sym em) ∙ h))

@@ -1,27 +1,50 @@
 -- What the code's calls answer, as the rule of a pass has it, in ticks: k = 5.
 use Prim.Native.Nat.{ℕ}
-use mathlib.Core.List.{[], _∷_}
+use mathlib.Core.Path.{_≡_}
+use mathlib.Core.List.{List, [], _∷_}
+use lib.ListN.{length}
+use lib.Ieee.{Float}
 use Rattle.emath.specs.Refusals.{least, sizeFault, pairFault, edgesFault, outside, frameFault}
 use Rattle.emath.specs.declared.Rect.{Rect}
 use Rattle.emath.specs.declared.Vec2.{Vec2}
 use Rattle.layout.specs.Refusals.{zeroRect}
 use Rattle.placer.specs.Refusals.{placerFault, advanceFault}
 use Rattle.placer.specs.Operations.{checkedAdvanceCursor, checkedEndRow, checkedSetRowHeight, checkedSetMaxWidth, checkedSetMaxHeight, checkedSetMinWidth, checkedSetMinHeight}
+use Rattle.placer.specs.Lent.{placerOf}
 use Rattle.placer.specs.declared.Placer.{Placer}
 use Rattle.placer.specs.declared.PlacerAnswer.{PlacerAnswer}
+use Rattle.placer.specs.declared.BarePlacer.{BarePlacer}
 use Rattle.records.specs.declared.Step.{Step}
 use Rattle.records.specs.declared.Step.the-variants.{Widget, Space, RowHeight, MaxWidth, MaxHeight, MinWidth, MinHeight, RowEnd}
 use Rattle.records.specs.declared.Record.{Record}
 use Rattle.records.specs.declared.Record.the-variants as record-of
-use Rattle.sheet.specs.declared.Moved.{Moved}
+use Rattle.sheet.specs.declared.BareMoved.{BareMoved}
 use Rattle.sheet.specs.Pass.{cellOf, widgetStep}
 
--- 4 to 8 of what a W's calls are given, 9 and 10 of what they answer
-unfoldable pub givenNumber : Placer → Vec2 → Vec2 → ℕ
-givenNumber p sp s = least (placerFault p ∷ sizeFault s ∷ pairFault (sp .x) (sp .y) ∷ advanceFault p ∷ [])
+-- what a record gives: its number (0: none), the placer after it; how many W it is, and a W's rectangles
+pub record Moved : Type 0 where
+  pub number : ℕ
+  pub placer : Placer
+  pub placed : ℕ
+  pub frame : Rect
+  pub widget : Rect
 
-unfoldable pub answeredNumber : Rect → Rect → Placer → ℕ
-answeredNumber f w after = least (frameFault f ∷ outside (edgesFault w) ∷ outside (placerFault after) ∷ [])
+-- with the arrays that are lent
+abbrev pub movedOf : BareMoved → List Float → List Float → List Float → List Float → Moved
+movedOf m pw ph ws hs = record { number = m .number; placer = placerOf (m .placer) pw ph ws hs; placed = m .placed; frame = m .frame; widget = m .widget }
+
+-- a placer without fault, and arrays of their lengths
+pub record Ready (p : BarePlacer) (pw ph ws hs : List Float) : Type 0 where
+  pub none : placerFault (placerOf p pw ph ws hs) ≡ 0
+  pub cols : length ws ≡ 32
+  pub rows : length hs ≡ 128
+
+-- of a placer without fault: 4 to 8 of what a W's calls are given, 9 and 10 of what they answer, `past` the new placer's own
+unfoldable pub givenNumber : Placer → Vec2 → Vec2 → ℕ
+givenNumber p sp s = least (sizeFault s ∷ pairFault (sp .x) (sp .y) ∷ advanceFault p ∷ [])
+
+unfoldable pub answeredNumber : Rect → Rect → ℕ → ℕ
+answeredNumber f w past = least (frameFault f ∷ outside (edgesFault w) ∷ outside past ∷ [])
 
 -- a W, and a record that is one call
 unfoldable pub placement : Placer → Vec2 → Vec2 → Moved

@@ -18,10 +18,9 @@ use Rattle.records.specs.declared.Record.the-variants as record-of
 use Rattle.records.specs.declared.Checked.{Checked}
 use Rattle.records.specs.declared.Checked.the-variants as checked-of
 use Rattle.sheet.specs.declared.Passed.{Passed}
-use Rattle.sheet.specs.declared.Run.{Run}
 use Rattle.sheet.specs.Pass.{Outcome, Ran, refusedAt, outcomeOf, headed, gridded}
 use Rattle.sheet.specs.Slices.{passedOf}
-use Rattle.sheet.specs.Walks.{walked}
+use Rattle.sheet.specs.Walks.{Run, walked}
 
 -- the slice has room for the W after H, and after G
 pub record Room (text : List ℕ) (room : ℕ) : Type 0 where

@@ -5,11 +5,13 @@ use mathlib.Core.List.{List, [], _∷_, _++_}
 use lib.IntN.{ℤ}
 use lib.Dec.{eqb, ltb}
 use lib.Seq.{sets}
+use lib.Ieee.{Float}
 use Rattle.emath.specs.declared.Rect.{Rect}
 use Rattle.emath.specs.declared.Vec2.{Vec2}
+use Rattle.placer.specs.Lent.{placerOf}
 use Rattle.placer.specs.declared.Placer.{Placer}
 use Rattle.records.specs.Records.{recordOf, rest}
-use Rattle.sheet.specs.declared.Run.{Run}
+use Rattle.sheet.specs.declared.BareRun.{BareRun}
 use Rattle.sheet.specs.Sheets.{inTicks}
 use Rattle.sheet.specs.Slices.{edges}
 use Rattle.sheet.specs.Calls.{recordMoved}
@@ -19,6 +21,16 @@ eightOf frame widget = edges (inTicks 5 frame) ++ edges (inTicks 5 widget)
 
 unfoldable pub putAt : List ℤ → ℕ → ℕ → Rect → Rect → List ℤ
 putAt out w placed frame widget = cond (ltb placed 1) out (sets out (8 * w) (eightOf frame widget))
+
+-- how far a run came: a refusal's number (0: none) and record, and the placer
+pub record Run : Type 0 where
+  pub number : ℕ
+  pub at : ℕ
+  pub placer : Placer
+
+-- with the arrays that are lent
+abbrev pub runOf : BareRun → List Float → List Float → List Float → List Float → Run
+runOf r pw ph ws hs = record { number = r .number; at = r .at; placer = placerOf (r .placer) pw ph ws hs }
 
 pub record Walk : Type 0 where
   pub run : Run

@@ -1,7 +1,7 @@
 // A sheet's pass: the rules in specs/, the call that runs them, and what is proved of them.
 use emath::Rect;
 use grid::Memory;
-use placer::Placer;
+use placer::BarePlacer;
 
 pub mod cells;
 pub mod passing;
@@ -10,19 +10,19 @@ mod walk;
 
 // What a record gives: its number (0: none), the placer after it, the given one where it is refused; how many W it is, 1 or 0, and a W's
 // rectangles.
-pub struct Moved {
+pub struct BareMoved {
     pub number: u8,
-    pub placer: Placer,
+    pub placer: BarePlacer,
     pub placed: usize,
     pub frame: Rect,
     pub widget: Rect,
 }
 
 // How far a run came: a refusal's number (0: none) and record, and the placer.
-pub struct Run {
+pub struct BareRun {
     pub number: u8,
     pub at: usize,
-    pub placer: Placer,
+    pub placer: BarePlacer,
 }
 
 // Whether a pass is accepted, or the number of document 01's table and the record, from 1.

@@ -1,15 +1,19 @@
 // One pass over a sheet's text, with a memory or none, and a lent slice for the rectangles.
+use crate::BareRun;
 use crate::Laid;
 use crate::Passed;
-use crate::Run;
 use crate::walk::run;
 use emath::Rect;
 use emath::Vec2;
 use emath::faults::or_else;
 use grid::GridLayout;
 use grid::Memory;
+use grid::memories::heights_of;
+use grid::memories::widths_of;
 use placer::Placer;
 use placer::PlacerAnswer;
+use placer::lent::bare;
+use placer::lent::whole;
 use placer::rules::save_grid;
 use records::Checked;
 use records::GridOptions;
@@ -22,10 +26,12 @@ ghost use mathlib.Core.Path.{_≡_};
 ghost use mathlib.Core.List.{[]};
 ghost use Prim.Native.Nat.{_+_, _*_, _≤_};
 ghost use lib.ListN.{length, drop};
+ghost use Rattle.placer.specs.Refusals.{placerFault};
 ghost use Rattle.records.specs.Records.{nextAt};
 ghost use Rattle.records.specs.Sheets.{recordsFrom, widgets, checked};
 ghost use Rattle.sheet.specs.Pass.{refusedAt, outcomeOf, gridded as griddedBy};
 ghost use Rattle.sheet.specs.Passing.{ranOf, Room, goneOn, plainOn, gridOn, afterHead, fromHeading, fromRecord};
+ghost use Rattle.sheet.specs.Walks.{runOf};
 ghost use Rattle.sheet.specs.Slices.{laidOf, passedOf, laid};
 
 fn laid_of(number: u8, at: usize) -> Laid
@@ -56,9 +62,16 @@ fn refused(number: u8, at: usize, memory: Memory) -> Passed
     }
 }
 
-// The run's end: the plate is min_rect, and a grid gives its memory.
-fn finish(grid: bool, memory: Memory, r: Run) -> Passed
-    ensures { λ p. ⌜ p ≡ passedOf (outcomeOf grid memory (ranOf r)) ⌝ }
+// The run's end: the plate is min_rect, and a grid gives its memory, which is the one that the arrays hold.
+fn finish(
+    grid: bool,
+    memory: Memory,
+    r: BareRun,
+    prev: Memory,
+    widths: [f32; 32],
+    heights: [f32; 128],
+) -> Passed
+    ensures { λ p. ⌜ p ≡ passedOf (outcomeOf grid memory (ranOf (runOf r (prev .«col_widths») (prev .«row_heights») widths heights))) ⌝ }
 {
     let number = r.number;
     if number != 0 {
@@ -69,7 +82,7 @@ fn finish(grid: bool, memory: Memory, r: Run) -> Passed
     let plate = region.min_rect;
     let laid = Laid::Accepted;
     if grid {
-        let saved = save_grid(p);
+        let saved = save_grid(whole(p, prev, widths, heights));
         let kept = saved.memory;
         return Passed {
             laid,
@@ -134,6 +147,7 @@ fn go_on(
     memory: Memory,
     out: &mut [i32],
 ) -> Passed
+    requires { ⌜ (a .number ≡ 0 → placerFault (a .placer) ≡ 0) ⌝ }
     requires { ⌜ (from ≤ length (now text)) × (first + most ≤ 600) ⌝ }
     requires { ⌜ 8 * widgets (recordsFrom most (drop from (now text))) ≤ length (now out) ⌝ }
     ensures { λ r. ⌜ (r ≡ goneOn a n (drop from (now (text .entry))) first most spacing grid memory (now (out .entry)) .passed) × (now (out .exit) ≡ goneOn a n (drop from (now (text .entry))) first most spacing grid memory (now (out .entry)) .slice) ⌝ }
@@ -143,11 +157,31 @@ fn go_on(
         return refused(number, n, memory);
     }
     let p = a.placer;
-    finish(grid, memory, run(text, from, first, most, p, spacing, out))
+    let g = p.grid;
+    let prev = g.prev_state;
+    let prev_widths = widths_of(prev);
+    let prev_heights = heights_of(prev);
+    let mut widths = widths_of(g.curr_state);
+    let mut heights = heights_of(g.curr_state);
+    let r = run(
+        text,
+        from,
+        first,
+        most,
+        bare(p),
+        &prev_widths,
+        &prev_heights,
+        &mut widths,
+        &mut heights,
+        spacing,
+        out,
+    );
+    finish(grid, memory, r, prev, widths, heights)
 }
 
 // Without G: the steps from the second record on.
 fn plain(heading: Heading, placer: Placer, text: &[u8], memory: Memory, out: &mut [i32]) -> Passed
+    requires { ⌜ placerFault placer ≡ 0 ⌝ }
     requires { ⌜ 8 * widgets (recordsFrom 511 (drop (nextAt (now text) 0) (now text))) ≤ length (now out) ⌝ }
     ensures { λ r. ⌜ (r ≡ plainOn (now (text .entry)) heading placer memory (now (out .entry)) .passed) × (now (out .exit) ≡ plainOn (now (text .entry)) heading placer memory (now (out .entry)) .slice) ⌝ }
 {
@@ -186,6 +220,7 @@ fn after_head(
     sizing: bool,
     out: &mut [i32],
 ) -> Passed
+    requires { ⌜ placerFault placer ≡ 0 ⌝ }
     requires { ⌜ Room (now text) (length (now out)) ⌝ }
     ensures { λ p. ⌜ (p ≡ afterHead r (now (text .entry)) heading placer known memory sizing (now (out .entry)) .passed) × (now (out .exit) ≡ afterHead r (now (text .entry)) heading placer known memory sizing (now (out .entry)) .slice) ⌝ }
 {

@@ -1,5 +1,5 @@
-// One record after H and G: the calls that it names.
-use crate::Moved;
+// One record after H and G: the calls that it names. The placer has no fault, and its grid's arrays are lent beside it.
+use crate::BareMoved;
 use emath::Rect;
 use emath::Vec2;
 use emath::faults::edges_fault;
@@ -9,51 +9,71 @@ use emath::faults::or_else;
 use emath::faults::outside_domain;
 use emath::faults::pair_fault;
 use emath::faults::size_fault;
-use placer::Placer;
-use placer::PlacerAnswer;
-use placer::faults::advance_fault;
-use placer::faults::placer_answer;
-use placer::faults::placer_fault;
-use placer::rules::advance_after_rects;
-use placer::rules::justify_and_align;
-use placer::rules::next_space;
+use placer::BareAnswer;
+use placer::BarePlacer;
+use placer::faults::cell_fault;
+use placer::lent;
 use records::Record;
 use records::Step;
 ghost use mathlib.Core.Path.{_≡_};
+ghost use mathlib.Core.List.{List};
+ghost use lib.Ieee.{Float};
 ghost use Rattle.layout.specs.Refusals.{zeroRect};
-ghost use Rattle.sheet.specs.Calls.{givenNumber, answeredNumber, placement, calledBy, stepMoved, recordMoved};
+ghost use Rattle.placer.specs.Lent.{placerOf, answerOf};
+ghost use Rattle.sheet.specs.Calls.{movedOf, givenNumber, answeredNumber, placement, calledBy, stepMoved, recordMoved, Ready};
 
 // What a W's calls are given: 4 to 8.
-fn given_number(placer: Placer, spacing: Vec2, size: Vec2) -> u8
-    ensures { λ n. ⌜ n ≡ givenNumber placer spacing size ⌝ }
+fn given_number(placer: BarePlacer, spacing: Vec2, size: Vec2) -> u8
+    ensures { λ n. ⌜ ((pw ph ws hs : List Float) → n ≡ givenNumber (placerOf placer pw ph ws hs) spacing size) ⌝ }
 {
-    let place = advance_fault(placer);
-    let pair = lesser_number(pair_fault(spacing.x, spacing.y), place);
-    lesser_number(placer_fault(placer), lesser_number(size_fault(size), pair))
+    let g = placer.grid;
+    let place = cell_fault(placer.has_grid, g.col, g.row);
+    lesser_number(
+        size_fault(size),
+        lesser_number(pair_fault(spacing.x, spacing.y), place),
+    )
 }
 
 // What they answer: 9 and 10.
-fn answered_number(frame: Rect, widget: Rect, after: Placer) -> u8
-    ensures { λ n. ⌜ n ≡ answeredNumber frame widget after ⌝ }
+fn answered_number(frame: Rect, widget: Rect, past: u8) -> u8
+    ensures { λ n. ⌜ n ≡ answeredNumber frame widget past ⌝ }
 {
-    let state = outside_domain(placer_fault(after));
+    let state = outside_domain(past);
     let rect = lesser_number(outside_domain(edges_fault(widget)), state);
     lesser_number(frame_fault(frame), rect)
 }
 
 // W: `next_space`, then `justify_and_align`, then `advance_after_rects`.
-fn place(placer: Placer, spacing: Vec2, size: Vec2) -> Moved
-    ensures { λ r. ⌜ r ≡ placement placer spacing size ⌝ }
+fn place(
+    placer: BarePlacer,
+    prev_widths: &[f32],
+    prev_heights: &[f32],
+    widths: &mut [f32],
+    heights: &mut [f32],
+    spacing: Vec2,
+    size: Vec2,
+) -> BareMoved
+    requires { ⌜ Ready placer (now «prev_widths») (now «prev_heights») (now widths) (now heights) ⌝ }
+    ensures { λ m. ⌜ movedOf m (now («prev_widths» .entry)) (now («prev_heights» .entry)) (now (widths .exit)) (now (heights .exit)) ≡ placement (placerOf placer (now («prev_widths» .entry)) (now («prev_heights» .entry)) (now (widths .entry)) (now (heights .entry))) spacing size ⌝ }
 {
-    let frame = next_space(placer, size, spacing);
-    let widget = justify_and_align(placer, frame, size);
-    let after = advance_after_rects(placer, frame, widget, spacing);
+    let frame = lent::next_space(placer, prev_widths, prev_heights, size, spacing);
+    let widget = lent::justify_and_align(placer, frame, size);
+    let region = lent::region_past(placer, prev_widths, frame, widget, spacing);
+    let past = lent::past_fault(placer, &*widths, &*heights, region, widget);
     let given = given_number(placer, spacing, size);
-    let number = or_else(given, answered_number(frame, widget, after));
-    let a = placer_answer(number, placer, after);
-    let p = a.placer;
-    Moved {
-        number: a.number,
+    let number = or_else(given, answered_number(frame, widget, past));
+    if number != 0 {
+        return BareMoved {
+            number,
+            placer,
+            placed: 1,
+            frame,
+            widget,
+        };
+    }
+    let p = lent::advance(placer, widths, heights, region, widget);
+    BareMoved {
+        number,
         placer: p,
         placed: 1,
         frame,
@@ -73,12 +93,12 @@ fn zero_rect() -> Rect
 }
 
 // A record that is one call.
-fn called(a: PlacerAnswer) -> Moved
-    ensures { λ r. ⌜ r ≡ calledBy a ⌝ }
+fn called(a: BareAnswer) -> BareMoved
+    ensures { λ m. ⌜ ((pw ph ws hs : List Float) → movedOf m pw ph ws hs ≡ calledBy (answerOf a pw ph ws hs)) ⌝ }
 {
     let p = a.placer;
     let none = zero_rect();
-    Moved {
+    BareMoved {
         number: a.number,
         placer: p,
         placed: 0,
@@ -88,35 +108,69 @@ fn called(a: PlacerAnswer) -> Moved
 }
 
 // S amount `advance_cursor`; E `end_row`; R height `set_row_height`; L, K, N and T limit the region.
-fn step_moved(placer: Placer, spacing: Vec2, st: Step) -> Moved
-    ensures { λ r. ⌜ r ≡ stepMoved placer spacing st ⌝ }
+fn step_moved(
+    placer: BarePlacer,
+    prev_widths: &[f32],
+    prev_heights: &[f32],
+    widths: &mut [f32],
+    heights: &mut [f32],
+    spacing: Vec2,
+    st: Step,
+) -> BareMoved
+    requires { ⌜ Ready placer (now «prev_widths») (now «prev_heights») (now widths) (now heights) ⌝ }
+    ensures { λ m. ⌜ movedOf m (now («prev_widths» .entry)) (now («prev_heights» .entry)) (now (widths .exit)) (now (heights .exit)) ≡ stepMoved (placerOf placer (now («prev_widths» .entry)) (now («prev_heights» .entry)) (now (widths .entry)) (now (heights .entry))) spacing st ⌝ }
 {
     match st {
-        Step::Widget(x, y) => place(placer, spacing, Vec2 { x, y }),
-        Step::Space(amount) => called(placer.advance_cursor(amount)),
-        Step::RowHeight(height) => called(placer.set_row_height(height)),
-        Step::MaxWidth(width) => called(placer.set_max_width(width)),
-        Step::MaxHeight(height) => called(placer.set_max_height(height)),
-        Step::MinWidth(width) => called(placer.set_min_width(width)),
-        Step::MinHeight(height) => called(placer.set_min_height(height)),
-        Step::RowEnd => called(placer.end_row(spacing)),
+        Step::Widget(x, y) => place(
+            placer,
+            prev_widths,
+            prev_heights,
+            widths,
+            heights,
+            spacing,
+            Vec2 { x, y },
+        ),
+        Step::Space(amount) => called(lent::advance_cursor(placer, amount)),
+        Step::RowHeight(height) => called(lent::set_row_height(placer, height)),
+        Step::MaxWidth(width) => called(lent::set_max_width(placer, width)),
+        Step::MaxHeight(height) => called(lent::set_max_height(placer, height)),
+        Step::MinWidth(width) => called(lent::set_min_width(placer, width)),
+        Step::MinHeight(height) => called(lent::set_min_height(placer, height)),
+        Step::RowEnd => called(lent::end_row(placer, &*heights, spacing)),
     }
 }
 
 // A heading or a grid's options here, or what is no record, is 1; a sheet that was checked has none.
-fn misplaced(placer: Placer) -> Moved
-    ensures { λ r. ⌜ r ≡ calledBy (record { number = 1; placer = placer }) ⌝ }
+fn misplaced(placer: BarePlacer) -> BareMoved
+    ensures { λ m. ⌜ ((pw ph ws hs : List Float) → movedOf m pw ph ws hs ≡ calledBy (record { number = 1; placer = placerOf placer pw ph ws hs })) ⌝ }
 {
-    called(PlacerAnswer { number: 1, placer })
+    called(BareAnswer { number: 1, placer })
 }
 
-pub fn record_moved(placer: Placer, spacing: Vec2, r: Record) -> Moved
-    ensures { λ m. ⌜ m ≡ recordMoved placer spacing r ⌝ }
+pub fn record_moved(
+    placer: BarePlacer,
+    prev_widths: &[f32],
+    prev_heights: &[f32],
+    widths: &mut [f32],
+    heights: &mut [f32],
+    spacing: Vec2,
+    r: Record,
+) -> BareMoved
+    requires { ⌜ Ready placer (now «prev_widths») (now «prev_heights») (now widths) (now heights) ⌝ }
+    ensures { λ m. ⌜ movedOf m (now («prev_widths» .entry)) (now («prev_heights» .entry)) (now (widths .exit)) (now (heights .exit)) ≡ recordMoved (placerOf placer (now («prev_widths» .entry)) (now («prev_heights» .entry)) (now (widths .entry)) (now (heights .entry))) spacing r ⌝ }
 {
     match r {
         Record::Heading(_) => misplaced(placer),
         Record::Grid(_) => misplaced(placer),
-        Record::Step(st) => step_moved(placer, spacing, st),
+        Record::Step(st) => step_moved(
+            placer,
+            prev_widths,
+            prev_heights,
+            widths,
+            heights,
+            spacing,
+            st,
+        ),
         Record::Wrong => misplaced(placer),
     }
 }

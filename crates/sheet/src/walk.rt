@@ -1,16 +1,18 @@
 // The records of a text one after the other.
-use crate::Run;
+use crate::BareRun;
 use crate::cells::put;
 use crate::steps::record_moved;
 use emath::Vec2;
-use placer::Placer;
+use placer::BarePlacer;
 use records::records::next_record;
 use records::records::read_record;
 ghost use mathlib.Core.Path.{_≡_};
 ghost use Prim.Native.Nat.{_+_, _*_, _≤_};
 ghost use lib.ListN.{length, drop};
 ghost use Rattle.records.specs.Sheets.{recordsFrom, widgets};
-ghost use Rattle.sheet.specs.Walks.{walked};
+ghost use Rattle.placer.specs.Lent.{placerOf};
+ghost use Rattle.sheet.specs.Calls.{Ready};
+ghost use Rattle.sheet.specs.Walks.{runOf, walked};
 
 // From the place `from`, where record `first` is, at most `most` records; each W's rectangles go to the slice.
 pub fn run(
@@ -18,13 +20,18 @@ pub fn run(
     from: usize,
     first: usize,
     most: usize,
-    placer: Placer,
+    placer: BarePlacer,
+    prev_widths: &[f32],
+    prev_heights: &[f32],
+    widths: &mut [f32],
+    heights: &mut [f32],
     spacing: Vec2,
     out: &mut [i32],
-) -> Run
+) -> BareRun
+    requires { ⌜ Ready placer (now «prev_widths») (now «prev_heights») (now widths) (now heights) ⌝ }
     requires { ⌜ (from ≤ length (now text)) × (first + most ≤ 600) ⌝ }
     requires { ⌜ 8 * widgets (recordsFrom most (drop from (now text))) ≤ length (now out) ⌝ }
-    ensures { λ r. ⌜ (r ≡ walked most spacing first placer (drop from (now (text .entry))) (now (out .entry)) 0 .run) × (now (out .exit) ≡ walked most spacing first placer (drop from (now (text .entry))) (now (out .entry)) 0 .slice) ⌝ }
+    ensures { λ r. ⌜ record { run = runOf r (now («prev_widths» .entry)) (now («prev_heights» .entry)) (now (widths .exit)) (now (heights .exit)); slice = now (out .exit) } ≡ walked most spacing first (placerOf placer (now («prev_widths» .entry)) (now («prev_heights» .entry)) (now (widths .entry)) (now (heights .entry))) (drop from (now (text .entry))) (now (out .entry)) 0 ⌝ }
 {
     let mut p = placer;
     let mut at = from;
@@ -33,17 +40,25 @@ pub fn run(
     let mut left = most;
     while 0 < left {
         if text.len() <= at {
-            return Run {
+            return BareRun {
                 number: 0,
                 at: 0,
                 placer: p,
             };
         }
-        let m = record_moved(p, spacing, read_record(text, at));
+        let m = record_moved(
+            p,
+            prev_widths,
+            prev_heights,
+            widths,
+            heights,
+            spacing,
+            read_record(text, at),
+        );
         let number = m.number;
         let q = m.placer;
         if number != 0 {
-            return Run {
+            return BareRun {
                 number,
                 at: n,
                 placer: q,
@@ -55,7 +70,7 @@ pub fn run(
         n += 1;
         left -= 1;
     }
-    Run {
+    BareRun {
         number: 0,
         at: 0,
         placer: p,

@@ -1,47 +1,24 @@
+-- `sheet::passing::from_heading` meets its contract. Assumes nothing.
+use mathlib.Core.Path.{refl}
 use borrow.Author.Tests.{eq-eqb, ne-eqb}
 use Rattle.placer.specs.Operations.{checkedNew}
 use Rattle.sheet.specs.Pass.{headed}
 use Rattle.sheet.specs.Passing.{fromHeading}
-use mathlib.Core.Path.{refl}
+use Rattle.sheet.proofs.Stepping.{headed-none}
 use borrow.Author.Needs.{needs}
 use Rattle.sheet.proofs.passing.from_heading.Statement.{statement}
 use Rattle.sheet.proofs.passing.from_heading.Tie as tie
-
-new-requires : tie.Need-new-requires
-new-requires c κs = search needs
-
-refused-requires : tie.Need-refused-requires
-refused-requires c κs = search needs
 
 returns : tie.Need-returns
 unfolding fromHeading headed checkedNew
 returns c = rw (c .refused .ensures, ← c .before .before .new .ensures, ne-eqb _ _ (c .before .if1 .taken)) (refl, refl)
 
-next-record-requires : tie.Need-next-record-requires
-next-record-requires c κs = search needs
-
-read-record-requires : tie.Need-read-record-requires
-read-record-requires c κs = search needs
-
 after-head-requires : tie.Need-after-head-requires
-after-head-requires c κs = search needs
-
-same-length : tie.Need-same-length
-same-length c = search needs
+after-head-requires c κs = (headed-none _ _ _ (c .before .before .before .before .before .new .ensures) (c .before .before .before .before .if1 .left), c .before .before .before .before .before .before .before .before .pre)
 
 returns-2 : tie.Need-returns-2
 unfolding fromHeading headed checkedNew
 returns-2 c = rw (← c .before .before .before .before .before .before .before .new .ensures, eq-eqb _ _ (c .before .before .before .before .before .before .if1 .left), ← c .before .before .before .before .next-record .ensures, ← c .before .before .before .read-record .ensures) (c .before .after-head .ensures)
 
 pub from-heading-spec : {M : Type 1} → statement M
-from-heading-spec =
-    tie.close
-    (tie.spec
-    new-requires
-    refused-requires
-    returns
-    next-record-requires
-    read-record-requires
-    after-head-requires
-    same-length
-    returns-2)
+from-heading-spec = tie.close (tie.spec (λ c κs. search needs) (λ c κs. search needs) returns (λ c κs. search needs) (λ c κs. search needs) after-head-requires (λ c. search needs) returns-2)

@@ -1,12 +1,13 @@
-use Rattle.records.proofs.Places.{next-within}
+-- `sheet::passing::plain` meets its contract. Assumes nothing.
 use native.Mathlib.Omega.{arith}
-use borrow.Author.Needs.{needs}
+use Rattle.records.proofs.Places.{next-within}
 use Rattle.sheet.specs.Passing.{plainOn}
+use borrow.Author.Needs.{needs}
 use Rattle.sheet.proofs.passing.plain.Statement.{statement}
 use Rattle.sheet.proofs.passing.plain.Tie as tie
 
 go-on-requires : tie.Need-go-on-requires
-go-on-requires c κs = rw (c .before .next-record .ensures) ((next-within _ _, omega arith), c .before .before .before .pre)
+go-on-requires c κs = rw (c .before .next-record .ensures) ((λ z. c .before .before .before .pre .0), ((next-within _ _, omega arith), c .before .before .before .pre .1))
 
 returns : tie.Need-returns
 unfolding plainOn

@@ -1,12 +1,14 @@
-use Rattle.records.proofs.Places.{next-within}
+-- `sheet::passing::with_grid` meets its contract. Assumes nothing.
 use native.Mathlib.Omega.{arith}
-use borrow.Author.Needs.{needs}
+use Rattle.records.proofs.Places.{next-within}
 use Rattle.sheet.specs.Passing.{gridOn}
+use Rattle.sheet.proofs.Stepping.{gridded-none}
+use borrow.Author.Needs.{needs}
 use Rattle.sheet.proofs.passing.with_grid.Statement.{statement}
 use Rattle.sheet.proofs.passing.with_grid.Tie as tie
 
 go-on-requires : tie.Need-go-on-requires
-go-on-requires c κs = rw (c .before .before .next-record2 .ensures, c .before .before .before .next-record .ensures) ((next-within _ _, omega arith), c .before .before .before .before .before .pre)
+go-on-requires c κs = rw (c .before .before .next-record2 .ensures, c .before .before .before .next-record .ensures) ((λ z. gridded-none _ _ _ _ _ _ _ (c .before .gridded .ensures) z), ((next-within _ _, omega arith), c .before .before .before .before .before .pre))
 
 returns : tie.Need-returns
 unfolding gridOn

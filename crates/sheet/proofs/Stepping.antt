@@ -1,0 +1,101 @@
+-- A record on a placer without fault: what the code adds up for a W is the rule's number, and an accepted record leaves a placer without
+-- fault. Assumes nothing.
+use mathlib.Core.Path.{_≡_, refl, sym, ap, _∙_}
+use mathlib.Core.Bool.{Bool, true, false, cond}
+use mathlib.Core.List.{[], _∷_}
+use Prim.Native.Nat.{ℕ}
+use native.Mathlib.Omega.{arith}
+use lib.Dec.{eqb}
+use lib.ListN.{length}
+use borrow.Author.Tests.{eq-eqb, ne-eqb, eqb-true}
+use Rattle.emath.specs.Refusals.{least, orElse, sizeFault, pairFault, edgesFault, outside, frameFault}
+use Rattle.emath.proofs.Refusals.{lesser-none, or-none}
+use Rattle.emath.specs.declared.Rect.{Rect}
+use Rattle.emath.specs.declared.Vec2.{Vec2}
+use Rattle.grid.proofs.Unfaulted.{zero-lesser}
+use Rattle.placer.specs.Rules.{nextSpace, justifyAndAlign, advanceAfterRects}
+use Rattle.placer.specs.Refusals.{placerFault, advanceFault, changed}
+use Rattle.placer.specs.Operations.{checkedNew, checkedSetGrid, checkedAdvanceCursor, checkedEndRow, checkedSetRowHeight, checkedSetMaxWidth, checkedSetMaxHeight, checkedSetMinWidth, checkedSetMinHeight}
+use Rattle.placer.specs.Lent.{pastPart}
+use Rattle.placer.proofs.Accepted.{changed-accepted}
+use Rattle.placer.proofs.Unfaulted.{past-fault}
+use Rattle.placer.specs.declared.Placer.{Placer}
+use Rattle.placer.specs.declared.PlacerAnswer.{PlacerAnswer}
+use Rattle.layout.specs.declared.Layout.{Layout}
+use Rattle.grid.specs.declared.Memory.{Memory}
+use Rattle.records.specs.declared.Heading.{Heading}
+use Rattle.records.specs.declared.GridOptions.{GridOptions}
+use Rattle.records.specs.declared.Step.{Step}
+use Rattle.records.specs.declared.Step.the-variants.{Widget, Space, RowHeight, MaxWidth, MaxHeight, MinWidth, MinHeight, RowEnd}
+use Rattle.records.specs.declared.Record.{Record}
+use Rattle.records.specs.declared.Record.the-variants as record-of
+use Rattle.sheet.specs.Pass.{cellOf, widgetFault, widgetStep, gridOf, gridded}
+use Rattle.sheet.proofs.Runs.{widget-placed}
+use Rattle.sheet.specs.Calls.{Moved, givenNumber, answeredNumber, placement, stepMoved, recordMoved}
+
+-- ---- a W
+module _ (p : Placer) (sp s : Vec2) (none : placerFault p ≡ 0) (cols : length (p .grid .«curr_state» .«col_widths») ≡ 32) (rows : length (p .grid .«curr_state» .«row_heights») ≡ 128) where
+  -- where there is no room the rest is not asked
+  given-room : givenNumber p sp s ≡ 0 → advanceFault p ≡ 0
+  unfolding givenNumber least
+  given-room h = lesser-none (pairFault (sp .x) (sp .y)) (advanceFault p) (lesser-none (sizeFault s) _ h .1) .1
+
+  number-is : (f w : Rect) → orElse (givenNumber p sp s) (answeredNumber f w (pastPart p (advanceAfterRects p f w sp .region) w)) ≡ widgetFault sp p s (record { frame = f; widget = w })
+  number-is f w = whole (go (eqb (givenNumber p sp s) 0) refl)
+    where
+      go : (b : Bool) → eqb (givenNumber p sp s) 0 ≡ b
+          → orElse (givenNumber p sp s) (answeredNumber f w (pastPart p (advanceAfterRects p f w sp .region) w)) ≡ orElse (givenNumber p sp s) (answeredNumber f w (placerFault (advanceAfterRects p f w sp)))
+      go true e = rw (past-fault p f w sp none cols rows (given-room (eqb-true (givenNumber p sp s) 0 e)))
+      go false e = unfold orElse in rw e
+      whole : orElse (givenNumber p sp s) (answeredNumber f w (pastPart p (advanceAfterRects p f w sp .region) w)) ≡ orElse (givenNumber p sp s) (answeredNumber f w (placerFault (advanceAfterRects p f w sp)))
+          → orElse (givenNumber p sp s) (answeredNumber f w (pastPart p (advanceAfterRects p f w sp .region) w)) ≡ widgetFault sp p s (record { frame = f; widget = w })
+      whole h = h ∙ (unfold widgetFault givenNumber answeredNumber least in rw (none, zero-lesser))
+
+  module _ (f w : Rect) (ef : f ≡ nextSpace 5 p s sp) (ew : w ≡ justifyAndAlign 5 p f s) (n : ℕ) (en : n ≡ orElse (givenNumber p sp s) (answeredNumber f w (pastPart p (advanceAfterRects p f w sp .region) w))) where
+    fault : n ≡ widgetFault sp p s (cellOf 5 sp p s)
+    fault = en ∙ number-is f w ∙ rw (ew, ef)
+
+    pub placement-refused : (n ≡ 0 → ⊥) → record { number = n; placer = p; placed = 1; frame = f; widget = w } ≡ placement p sp s
+    unfolding placement widgetStep
+    placement-refused h = rw (← fault, ne-eqb n 0 h, ew, ef)
+
+    pub placement-accepted : (q : Placer) → n ≡ 0 → q ≡ advanceAfterRects p f w sp → record { number = n; placer = q; placed = 1; frame = f; widget = w } ≡ placement p sp s
+    unfolding placement widgetStep
+    placement-accepted q h eq = rw (← fault, eq-eqb n 0 h, eq, ew, ef)
+
+-- ---- no fault after an accepted record
+widget-none : (p : Placer) (sp s : Vec2) → widgetStep sp p s (cellOf 5 sp p s) .number ≡ 0 → placerFault (widgetStep sp p s (cellOf 5 sp p s) .placer) ≡ 0
+widget-none p sp s h = let c = widget-placed sp p s (cellOf 5 sp p s) h in rw (c .placer) (c .after)
+
+step-none : (p : Placer) (sp : Vec2) (st : Step) → stepMoved p sp st .number ≡ 0 → placerFault (stepMoved p sp st .placer) ≡ 0
+unfolding stepMoved placement checkedAdvanceCursor checkedEndRow checkedSetRowHeight checkedSetMaxWidth checkedSetMaxHeight checkedSetMinWidth checkedSetMinHeight
+step-none p sp (Widget x y) h = widget-none p sp (record { x = x; y = y }) h
+step-none p sp (Space a) h = let c = changed-accepted _ p _ h in rw (c .2) (c .1)
+step-none p sp (RowHeight a) h = let c = changed-accepted _ p _ h in rw (c .2) (c .1)
+step-none p sp (MaxWidth a) h = let c = changed-accepted _ p _ h in rw (c .2) (c .1)
+step-none p sp (MaxHeight a) h = let c = changed-accepted _ p _ h in rw (c .2) (c .1)
+step-none p sp (MinWidth a) h = let c = changed-accepted _ p _ h in rw (c .2) (c .1)
+step-none p sp (MinHeight a) h = let c = changed-accepted _ p _ h in rw (c .2) (c .1)
+step-none p sp RowEnd h = let c = changed-accepted _ p _ h in rw (c .2) (c .1)
+
+pub moved-none : (p : Placer) (sp : Vec2) (r : Record) → recordMoved p sp r .number ≡ 0 → placerFault (recordMoved p sp r .placer) ≡ 0
+unfolding recordMoved
+moved-none p sp (record-of.Heading x) h = absurd (let z : _≡_ {A = ℕ} 1 0 = h in omega arith)
+moved-none p sp (record-of.Grid x) h = absurd (let z : _≡_ {A = ℕ} 1 0 = h in omega arith)
+moved-none p sp (record-of.Step st) h = step-none p sp st h
+moved-none p sp record-of.Wrong h = absurd (let z : _≡_ {A = ℕ} 1 0 = h in omega arith)
+
+-- ---- nor after H or G
+changed-none : (n : ℕ) (given new : Placer) (a : PlacerAnswer) → a ≡ changed n given new → a .number ≡ 0 → placerFault (a .placer) ≡ 0
+changed-none n given new a e h = let c = changed-accepted n given new (ap (λ (x : PlacerAnswer). x .number) (sym e) ∙ h) in rw (e, c .2) (c .1)
+
+pub headed-none : (r : Rect) (l : Layout) (a : PlacerAnswer) → a ≡ checkedNew r l → a .number ≡ 0 → placerFault (a .placer) ≡ 0
+unfolding checkedNew
+headed-none r l a e h = changed-none _ _ _ a e h
+
+pub gridded-none : (h : Heading) (o : GridOptions) (known : Bool) (m : Memory) (sizing : Bool) (p : Placer) (a : PlacerAnswer) → a ≡ gridded h o known m sizing p → a .number ≡ 0 → placerFault (a .placer) ≡ 0
+unfolding gridded checkedSetGrid
+gridded-none h o known m sizing p a e z =
+    let b = checkedSetGrid p (gridOf h o known m sizing p .grid) in
+    let n = or-none (gridOf h o known m sizing p .number) (b .number) (ap (λ (x : PlacerAnswer). x .number) (sym e) ∙ z) .1 in
+    rw e (changed-none _ _ _ b refl n)

@@ -3,7 +3,7 @@
 use Prim.Native.Nat.{ℕ, zero, suc, _+_, _*_, _≤_, _<_}
 use mathlib.Core.Path.{_≡_, refl, ap, sym, _∙_}
 use mathlib.Core.Bool.{Bool, true, false, cond}
-use mathlib.Core.List.{List, [], _∷_, _++_}
+use mathlib.Core.List.{List, [], _∷_}
 use native.Mathlib.Omega.{arith}
 use lib.Dec.{eqb, ltb}
 use lib.IntN.{ℤ}
@@ -175,11 +175,11 @@ sheet-few (record-of.Wrong ∷ rs) = omega (arith, after-few noHeading [])
 
 followed-few : (n : ℕ) (a : Stepped) (later : Ran) (m : ℕ) → n ≤ m → later .at ≤ m → followed n a later .at ≤ m
 unfolding followed
-followed-few n a later m l h = go (eqb (a .number) 0)
+followed-few n a later m l h = go (eqb (a .number) 0) refl
   where
-    go : (b : Bool) → cond {A = Ran} b (record { number = later .number; at = later .at; cells = a .cells ++ later .cells; placer = later .placer }) (record { number = a .number; at = n; cells = []; placer = a .placer }) .at ≤ m
-    go true = h
-    go false = l
+    go : (b : Bool) → eqb (a .number) 0 ≡ b → followed n a later .at ≤ m
+    go true e = rw e h
+    go false e = rw e l
 
 run-few : (k : ℕ) (sp : Vec2) (n : ℕ) (p : Placer) (steps : List Step) → runFrom k sp n p steps .at ≤ n + length steps
 unfolding runFrom

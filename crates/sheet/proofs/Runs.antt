@@ -1,11 +1,11 @@
 -- An accepted run: each of its records is accepted, and so is the rest, from the placer that the record leaves. Assumes nothing.
-use Prim.Native.Nat.{ℕ, zero, suc, _+_}
-use mathlib.Core.Path.{_≡_, refl, sym, subst}
-use mathlib.Core.Bool.{Bool, true, false, cond}
-use mathlib.Core.List.{List, [], _∷_, _++_}
+use Prim.Native.Nat.{ℕ, suc, _+_}
+use mathlib.Core.Path.{_≡_, refl, sym, _∙_}
+use mathlib.Core.Bool.{Bool, true, false}
+use mathlib.Core.List.{List, _∷_, _++_}
 use native.Mathlib.Omega.{arith}
 use lib.Dec.{eqb}
-use borrow.Author.Tests.{ne-eqb}
+use borrow.Author.Tests.{eqb-true, eq-eqb, ne-eqb}
 use Rattle.emath.specs.Refusals.{least, sizeFault, pairFault, edgesFault, frameFault, outside}
 use Rattle.emath.proofs.Refusals.{lesser-none, or-none, outside-none}
 use Rattle.emath.specs.declared.Vec2.{Vec2}
@@ -17,6 +17,9 @@ use Rattle.sheet.specs.Pass.{Cell, Stepped, Ran, stepped, followed, runF
 pub some : (n : ℕ) → eqb (suc n) 0 ≡ false
 some n = ne-eqb (suc n) 0 (λ (e : suc n ≡ 0). absurd (omega arith))
 
+no-such : {A : Type 0} → false ≡ true → A
+no-such e = let o : _≡_ {A = ℕ} 0 1 = cc in absurd (omega arith)
+
 -- ---- one record and the rest
 pub record Going (a : Stepped) (later whole : Ran) : Type 0 where
   pub this : a .number ≡ 0
@@ -26,16 +29,11 @@ pub record Going (a : Stepped) (later whole : Ran) : Type 0 where
 
 pub going : (n : ℕ) (a : Stepped) (later : Ran) → followed n a later .number ≡ 0 → Going a later (followed n a later)
 unfolding followed
-going n a later h = go (a .number) refl
+going n a later h = go (eqb (a .number) 0) refl
   where
-    whole : Bool → Ran
-    whole b = cond b (record { number = later .number; at = later .at; cells = a .cells ++ later .cells; placer = later .placer }) (record { number = a .number; at = n; cells = []; placer = a .placer })
-
-    go : (m : ℕ) → a .number ≡ m → Going a later (whole (eqb (a .number) 0))
-    go zero e =
-        let r : Going a later (whole true) = record { this = e; rest = rw e at h; cells = refl; placer = refl } in
-        subst (λ (m : ℕ). Going a later (whole (eqb m 0))) (sym e) r
-    go (suc m) e = absurd (let f : suc m ≡ 0 = rw (some m) at (rw e at h) in omega arith)
+    go : (b : Bool) → eqb (a .number) 0 ≡ b → Going a later (followed n a later)
+    go true e = record { this = eqb-true (a .number) 0 e; rest = rw e at h; cells = rw e; placer = rw e }
+    go false e = let z : a .number ≡ 0 = rw e at h in no-such (sym e ∙ eq-eqb (a .number) 0 z)
 
 pub run-goes : (k : ℕ) (sp : Vec2) (n : ℕ) (p : Placer) (st : Step) (rest : List Step) → runFrom k sp n p (st ∷ rest) .number ≡ 0
     → Going (stepped k sp p st) (runFrom k sp (n + 1) (stepped k sp p st .placer) rest) (runFrom k sp n p (st ∷ rest))

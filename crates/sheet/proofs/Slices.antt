@@ -49,11 +49,11 @@ one-cell k sp p (MinHeight h) = refl
 
 followed-few : (n : ℕ) (a : Stepped) (later : Ran) (m : ℕ) → length (later .cells) ≤ m → length (followed n a later .cells) ≤ length (a .cells) + m
 unfolding followed
-followed-few n a later m h = go (eqb (a .number) 0)
+followed-few n a later m h = go (eqb (a .number) 0) refl
   where
-    go : (b : Bool) → length (cond {A = Ran} b (record { number = later .number; at = later .at; cells = a .cells ++ later .cells; placer = later .placer }) (record { number = a .number; at = n; cells = []; placer = a .placer }) .cells) ≤ length (a .cells) + m
-    go true = omega (arith, length-append (a .cells) (later .cells), h)
-    go false = omega arith
+    go : (b : Bool) → eqb (a .number) 0 ≡ b → length (followed n a later .cells) ≤ length (a .cells) + m
+    go true e = rw e (omega (arith, length-append (a .cells) (later .cells), h))
+    go false e = rw e (omega arith)
 
 run-few : (k : ℕ) (sp : Vec2) (n : ℕ) (p : Placer) (steps : List Step) → length (runFrom k sp n p steps .cells) ≤ controls steps
 unfolding runFrom controls

@@ -47,6 +47,7 @@ module _ (p : Placer) (sp s : Vec2) (none : placerFault p ≡ 0) (cols : length 
           → orElse (givenNumber p sp s) (answeredNumber f w (pastPart p (advanceAfterRects p f w sp .region) w)) ≡ orElse (givenNumber p sp s) (answeredNumber f w (placerFault (advanceAfterRects p f w sp)))
       go true e = rw (past-fault p f w sp none cols rows (given-room (eqb-true (givenNumber p sp s) 0 e)))
       go false e = unfold orElse in rw e
+
       whole : orElse (givenNumber p sp s) (answeredNumber f w (pastPart p (advanceAfterRects p f w sp .region) w)) ≡ orElse (givenNumber p sp s) (answeredNumber f w (placerFault (advanceAfterRects p f w sp)))
           → orElse (givenNumber p sp s) (answeredNumber f w (pastPart p (advanceAfterRects p f w sp .region) w)) ≡ widgetFault sp p s (record { frame = f; widget = w })
       whole h = h ∙ (unfold widgetFault givenNumber answeredNumber least in rw (none, zero-lesser))

@@ -1,7 +1,7 @@
 -- A run over a text is the rule's run over the steps that the text holds, and the slice then holds the rectangles of its W. Assumes nothing.
 use Prim.Native.Nat.{ℕ, zero, suc, _+_, _*_}
 use mathlib.Core.Path.{_≡_, refl, ap, sym, _∙_, subst}
-use mathlib.Core.Bool.{Bool, true, false, cond}
+use mathlib.Core.Bool.{Bool, true, false}
 use mathlib.Core.List.{List, [], _∷_, _++_}
 use native.Mathlib.Omega.{arith}
 use native.Mathlib.Nat.{add-zero}
@@ -69,12 +69,11 @@ one-record : (n : ℕ) (m : Moved) (a : Stepped) (out : List ℤ) (w : ℕ) (lat
     → next ≡ walkOf (putAt out w (m .placed) (m .frame) (m .widget)) (w + m .placed) later
     → pick (eqb (m .number) 0) next (record { run = record { number = m .number; at = n; placer = m .placer }; slice = out }) ≡ walkOf out w (followed n a later)
 unfolding followed written
-one-record n m a out w later next s e = rw (s .number, s .placer) (go (eqb (a .number) 0))
+one-record n m a out w later next s e = rw (s .number, s .placer) (go (eqb (a .number) 0) refl)
   where
-    go : (b : Bool) → pick b next (record { run = record { number = a .number; at = n; placer = a .placer }; slice = out })
-        ≡ walkOf out w (cond b (record { number = later .number; at = later .at; cells = a .cells ++ later .cells; placer = later .placer }) (record { number = a .number; at = n; cells = []; placer = a .placer }))
-    go true = e ∙ ap (λ (l : List ℤ). record { run = record { number = later .number; at = later .at; placer = later .placer }; slice = l }) (s .puts (later .cells))
-    go false = refl
+    go : (b : Bool) → eqb (a .number) 0 ≡ b → pick (eqb (a .number) 0) next (record { run = record { number = a .number; at = n; placer = a .placer }; slice = out }) ≡ walkOf out w (followed n a later)
+    go true z = rw z (e ∙ ap (λ (l : List ℤ). record { run = record { number = later .number; at = later .at; placer = later .placer }; slice = l }) (s .puts (later .cells)))
+    go false z = rw z
 
 pub first-step : {r : Record} {rs : List Record} → OnlySteps (r ∷ rs) → (st : Step) × (r ≡ record-of.Step st) × OnlySteps rs
 first-step (more {st = st} t) = (st, refl, t)

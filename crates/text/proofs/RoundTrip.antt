@@ -131,11 +131,11 @@ differ-here x y xs ys h = simp (ne-eqb x y h)
 hidden : (n p : ℕ) → 1 ≤ n → n < p → shown n p ≡ false
 hidden n p h l = lt-leb p (max n 1) (omega arith)
 
-minus-at : (n k : ℕ) → shown n (10 ^ k) ≡ false → shown n (10 ^ k / 10) ≡ true → column true n k ≡ 45
+pub minus-at : (n k : ℕ) → shown n (10 ^ k) ≡ false → shown n (10 ^ k / 10) ≡ true → column true n k ≡ 45
 unfolding column
 minus-at n k e s = simp (e, s)
 
-blank-at : (n k : ℕ) → shown n (10 ^ k) ≡ false → column false n k ≡ 32
+pub blank-at : (n k : ℕ) → shown n (10 ^ k) ≡ false → column false n k ≡ 32
 unfolding column
 blank-at n k e = simp e
 

@@ -1,16 +1,15 @@
 -- One turn of each loop, as an equation of the definitions of specs/.
 use Prim.Native.Nat.{ℕ, zero, suc, _+_, _-_, _^_, _≤_, _<_, zero-le}
-use mathlib.Core.Path.{_≡_, sym, _∙_}
+use mathlib.Core.Path.{_≡_, _∙_}
 use mathlib.Core.List.{List, _∷_}
-use mathlib.Core.Bool.{Bool, true, false, cond}
+use mathlib.Core.Bool.{Bool}
 use native.Mathlib.Numerals.{add-one}
 use native.Mathlib.Omega.{arith}
-use lib.Dec.{eqb, lit<}
-use borrow.Author.Tests.{eq-eqb, ne-eqb}
+use lib.Dec.{lit<}
 use native.Mathlib.Nat.{pow-le-pow-right}
-use lib.ListN.{length, getD, drop, set, drop-of-length-le}
-use lib.Seq.{sets, drop-cons}
-use Rattle.text.specs.Fields.{column, columns, grow, digitsFrom, same, blank}
+use lib.ListN.{set}
+use lib.Seq.{sets}
+use Rattle.text.specs.Fields.{column, columns}
 
 pub columns-step : (neg : Bool) (n k : ℕ) → 0 < k → columns neg n k ≡ column neg n (k - 1) ∷ columns neg n (k - 1)
 unfolding columns
@@ -26,47 +25,6 @@ pub put-end : (neg : Bool) (n : ℕ) (out : List ℕ) (i k : ℕ) (r : List ℕ)
 unfolding columns
 put-end neg n out i zero r inv h = inv
 put-end neg n out i (suc k) r inv h = absurd (omega arith)
-
-pub digits-turn : (acc : ℕ) (f : List ℕ) (i b r : ℕ) → digitsFrom acc (drop i f) ≡ r → b ≡ grow acc (getD f i 0) → i < length f
-    → digitsFrom b (drop (i + 1) f) ≡ r
-unfolding digitsFrom
-digits-turn acc f i b r inv e h = (rw (e, add-one, drop-cons f i 0)) ∙ inv
-
-pub digits-end : (acc : ℕ) (f : List ℕ) (i r : ℕ) → digitsFrom acc (drop i f) ≡ r → length f ≤ i → acc ≡ r
-unfolding digitsFrom
-digits-end acc f i r inv h = sym (rw (drop-of-length-le f h)) ∙ inv
-
-blank-step : (f : List ℕ) (i : ℕ) → i < length f → blank (drop i f) ≡ cond (eqb (getD f i 0) 32) (blank (drop (i + 1) f)) false
-unfolding blank
-blank-step f i h = rw (add-one, drop-cons f i 0)
-
-pub blank-turn : (f : List ℕ) (i : ℕ) (r : Bool) → blank (drop i f) ≡ r → getD f i 0 ≡ 32 → i < length f → blank (drop (i + 1) f) ≡ r
-blank-turn f i r inv e h = sym (blank-step f i h ∙ simp (eq-eqb _ _ e)) ∙ inv
-
-pub blank-stop : (f : List ℕ) (i : ℕ) (r : Bool) → blank (drop i f) ≡ r → (getD f i 0 ≡ 32 → ⊥) → i < length f → false ≡ r
-blank-stop f i r inv e h = sym (blank-step f i h ∙ simp (ne-eqb _ _ e)) ∙ inv
-
-pub blank-end : (f : List ℕ) (i : ℕ) (r : Bool) → blank (drop i f) ≡ r → length f ≤ i → true ≡ r
-unfolding blank
-blank-end f i r inv h = sym (rw (drop-of-length-le f h)) ∙ inv
-
-same-step : (neg : Bool) (n : ℕ) (f : List ℕ) (i k : ℕ) → i < length f → 0 < k
-    → same (drop i f) (columns neg n k) ≡ cond (eqb (getD f i 0) (column neg n (k - 1))) (same (drop (i + 1) f) (columns neg n (k - 1))) false
-unfolding same
-same-step neg n f i k h g = rw (columns-step neg n k g, add-one, drop-cons f i 0)
-
-pub same-turn : (neg : Bool) (n : ℕ) (f : List ℕ) (i k : ℕ) (r : Bool) → same (drop i f) (columns neg n k) ≡ r → getD f i 0 ≡ column neg n (k - 1) → i < length f → 0 < k
-    → same (drop (i + 1) f) (columns neg n (k - 1)) ≡ r
-same-turn neg n f i k r inv e h g = sym (same-step neg n f i k h g ∙ simp (eq-eqb _ _ e)) ∙ inv
-
-pub same-stop : (neg : Bool) (n : ℕ) (f : List ℕ) (i k : ℕ) (r : Bool) → same (drop i f) (columns neg n k) ≡ r → (getD f i 0 ≡ column neg n (k - 1) → ⊥) → i < length f → 0 < k
-    → false ≡ r
-same-stop neg n f i k r inv e h g = sym (same-step neg n f i k h g ∙ simp (ne-eqb _ _ e)) ∙ inv
-
-pub same-end : (neg : Bool) (n : ℕ) (f : List ℕ) (i k : ℕ) (r : Bool) → same (drop i f) (columns neg n k) ≡ r → length f ≤ i → k ≤ 0 → true ≡ r
-unfolding same columns
-same-end neg n f i zero r inv h g = sym (rw (drop-of-length-le f h)) ∙ inv
-same-end neg n f i (suc k) r inv h g = absurd (omega arith)
 
 pub ten-pos : (j : ℕ) → 0 < 10 ^ j
 ten-pos j = pow-le-pow-right {n = 10} (lit< tt) {i = 0} {j = j} zero-le

@@ -2,10 +2,11 @@
 use crate::Field;
 ghost use mathlib.Core.Path.{_≡_};
 ghost use Prim.Native.Nat.{_+_, _^_, _≤_, _<_, max};
-ghost use lib.ListN.{length};
+ghost use lib.ListN.{length, drop};
 ghost use lib.Seq.{sets};
 ghost use lib.IntN.{natAbs};
-ghost use Rattle.text.specs.Fields.{column as columnOf, columns, digitsFrom, grow as growOf, same, blank, field, fieldAt, hasText, negative, writtenAt};
+ghost use Rattle.text.specs.Fields.{column as columnOf, columns, field, fieldAt, hasText, negative, writtenAt};
+ghost use Rattle.text.specs.Scanning.{none, valueFrom, unsigned as unsignedOf, fits as fitsIn, plus as plusOf, minus as minusOf, signed as signedOf};
 
 const TENS: [u32; 8] = [1, 10, 100, 1000, 10000, 100000, 1000000, 10000000];
 
@@ -55,83 +56,103 @@ fn put(out: &mut [u8], at: usize, neg: bool, n: u32)
     }
 }
 
-// A digit more, as long as there are fewer than eight.
-fn grow(acc: u32, b: u8) -> u32
-    requires { ⌜ acc < 100000000 ⌝ }
-    ensures { λ r. ⌜ (r ≡ growOf acc b) × (r < 100000000) ⌝ }
-{
-    if 9999999 < acc {
-        return acc;
-    }
-    if b < 48 {
-        return acc;
-    }
-    if 57 < b {
-        return acc;
-    }
-    acc * 10 + (b - 48) as u32
-}
+// No number: none of eight digits is so large.
+const NONE: u32 = 4294967295;
 
-// The number that the digits of f make, whatever else is there.
-fn digits(f: &[u8]) -> u32
-    ensures { λ r. ⌜ (r ≡ digitsFrom 0 (now (f .entry))) × (r < 100000000) ⌝ }
+// The number that the columns from `at` on make, all of them digits.
+fn value(f: &[u8], at: usize) -> u32
+    requires { ⌜ (8 ≡ length (now f)) × (at ≤ 8) ⌝ }
+    ensures { λ r. ⌜ (r ≡ valueFrom 0 (drop at (now (f .entry)))) × ((r ≡ none → ⊥) → r < 100000000) ⌝ }
 {
-    let mut acc = 0;
-    let mut i = 0;
-    while i < f.len() {
-        acc = grow(acc, f[i]);
-        i += 1;
+    let mut acc: u32 = 0;
+    let mut k = at;
+    while k < f.len() {
+        let b = f[k];
+        if b < 48 {
+            return NONE;
+        }
+        if 57 < b {
+            return NONE;
+        }
+        acc = acc * 10 + (b - 48) as u32;
+        k += 1;
     }
     acc
 }
 
-fn is_text(f: &[u8], neg: bool, n: u32) -> bool
-    requires { ⌜ 8 ≡ length (now f) ⌝ }
-    ensures { λ r. ⌜ r ≡ same (now (f .entry)) (columns neg n 8) ⌝ }
+// A zero stands alone: no digit comes after it.
+fn unsigned(f: &[u8], at: usize) -> u32
+    requires { ⌜ (8 ≡ length (now f)) × (at ≤ 8) ⌝ }
+    ensures { λ r. ⌜ (r ≡ unsignedOf (drop at (now (f .entry)))) × ((r ≡ none → ⊥) → r < 100000000) ⌝ }
 {
-    let mut k = 8;
-    let mut i = 0;
-    while 0 < k {
-        k -= 1;
-        if f[i] != column(neg, n, k) {
-            return false;
-        }
-        i += 1;
+    let n = f.len();
+    if n <= at {
+        return NONE;
     }
-    true
+    if f[at] == 48 {
+        if at + 1 < n {
+            return NONE;
+        }
+        return 0;
+    }
+    value(f, at)
 }
 
-fn is_blank(f: &[u8]) -> bool
-    ensures { λ r. ⌜ r ≡ blank (now (f .entry)) ⌝ }
+fn fits(n: u32, limit: u32) -> bool
+    ensures { λ b. ⌜ b ≡ fitsIn limit n ⌝ }
 {
-    let mut i = 0;
-    while i < f.len() {
-        if f[i] != 32 {
-            return false;
-        }
-        i += 1;
+    if n == NONE {
+        return false;
     }
-    true
+    n <= limit
+}
+
+fn plus(n: u32, limit: u32) -> Field
+    requires { ⌜ ((n ≡ none → ⊥) → n < 100000000) ⌝ }
+    ensures { λ r. ⌜ r ≡ plusOf limit n ⌝ }
+{
+    if fits(n, limit) {
+        return Field::Number(n as i32);
+    }
+    Field::Wrong
+}
+
+fn minus(n: u32, limit: u32) -> Field
+    requires { ⌜ ((n ≡ none → ⊥) → n < 100000000) ⌝ }
+    ensures { λ r. ⌜ r ≡ minusOf limit n ⌝ }
+{
+    if n == 0 {
+        return Field::Wrong;
+    }
+    if fits(n, limit) {
+        return Field::Number(0 - n as i32);
+    }
+    Field::Wrong
+}
+
+// From the first column that is no space.
+fn signed(f: &[u8], at: usize, limit: u32) -> Field
+    requires { ⌜ (8 ≡ length (now f)) × (at < 8) ⌝ }
+    ensures { λ r. ⌜ r ≡ signedOf limit (drop at (now (f .entry))) ⌝ }
+{
+    if f[at] == 45 {
+        return minus(unsigned(f, at + 1), limit);
+    }
+    plus(unsigned(f, at), limit)
 }
 
 fn read_columns(f: &[u8], limit: u32) -> Field
     requires { ⌜ 8 ≡ length (now f) ⌝ }
     ensures { λ r. ⌜ r ≡ field limit (now (f .entry)) ⌝ }
 {
-    if is_blank(f) {
-        return Field::Blank;
+    let mut i = 0;
+    while i < f.len() {
+        if f[i] != 32 {
+            return signed(f, i, limit);
+        }
+        i += 1;
     }
-    let n = digits(f);
-    if limit < n {
-        return Field::Wrong;
-    }
-    if is_text(f, false, n) {
-        return Field::Number(n as i32);
-    }
-    if is_text(f, 0 < n, n) {
-        return Field::Number(0 - n as i32);
-    }
-    Field::Wrong
+    Field::Blank
 }
 
 // What the eight columns from `at` hold; wrong where there are fewer.

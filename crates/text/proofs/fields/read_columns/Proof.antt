@@ -1,70 +1,58 @@
-use mathlib.Core.Path.{ap, _∙_}
-use Rattle.text.specs.declared.Field.the-variants.{Number}
-use Rattle.text.proofs.Outcomes.{nothing, above, number, minus, wrong}
-use Rattle.text.proofs.Signs.{small-value, opposite-fits, opposite-value}
+use Rattle.text.proofs.ScanTurns.{scan-end, scan-turn, scan-stop}
+use Rattle.text.proofs.Scanned.{scanned}
+use Rattle.text.specs.Scanning.{scan}
+use lib.ListN.{drop, length}
+use mathlib.Core.Path.{_≡_, refl, sym, _∙_}
+use Prim.Native.Nat.{_-_, _≤_}
 use borrow.Author.Needs.{needs}
 use Rattle.text.proofs.fields.read_columns.Statement.{statement}
 use Rattle.text.proofs.fields.read_columns.Tie as tie
 
-is-blank-requires : tie.Need-is-blank-requires
-is-blank-requires c κs = search needs
+abbrev Inv-loop : tie.InvT-loop
+Inv-loop f limit i₀ i = (i ≤ 8) × (scan limit (drop i f) ≡ scan limit f)
 
-returns : tie.Need-returns
-returns c = nothing _ _ _ (c .before .is-blank .ensures) (c .if1 .taken)
+abbrev μ-loop : tie.MeasureT-loop
+μ-loop f limit i₀ i = length f - i
 
-digits-requires : tie.Need-digits-requires
-digits-requires c κs = search needs
+loop-holds : tie.Need-loop-holds Inv-loop μ-loop
+loop-holds c = (search needs, refl)
 
-returns-2 : tie.Need-returns-2
-returns-2 c = above _ _ _ (c .before .before .before .is-blank .ensures) (c .before .before .if1 .left) _ (c .before .digits .ensures .0) (c .if2 .taken)
+shared-slice-read-if1 : tie.Need-shared-slice-read-if1 Inv-loop μ-loop
+shared-slice-read-if1 c = search needs
 
-is-text-requires : tie.Need-is-text-requires
-is-text-requires c κs = search needs
+signed-requires : tie.Need-signed-requires Inv-loop μ-loop
+signed-requires c κs = search needs
 
-cast-t7 : tie.Need-cast-t7
-cast-t7 c = search needs
+returns : tie.Need-returns Inv-loop μ-loop
+returns c =
+    let a = c .before .before .before .before .before .before .args in
+    c .signed .ensures ∙ scan-stop (c .before .before .before .before .before .before .args .limit) (c .before .before .before .before .before .before .args .f .now) (c .before .before .before .before .loop .i) _ (c .before .before .before .before .loop .inv .1) (c .before .before .before .loop-test .taken) (c .before .if1 .taken) ∙ scanned (a .limit) (a .f .now) (sym (c .before .before .before .before .before .before .pre))
 
-returns-3 : tie.Need-returns-3
-returns-3 c =
-    let a = c .before .before in
-    ap Number (small-value _ (a .before .digits .ensures .1))
-    ∙ number _ _ _ (a .before .before .before .is-blank .ensures) (a .before .before .if1 .left) _ (a .before .digits .ensures .0) (a .if2 .left) _ (c .before .is-text .ensures) (c .if3 .taken)
+add-i : tie.Need-add-i Inv-loop μ-loop
+add-i c = search needs
 
-is-text-requires-2 : tie.Need-is-text-requires-2
-is-text-requires-2 c κs = search needs
+loop-less : tie.Need-loop-less Inv-loop μ-loop
+loop-less c = search needs
 
-cast-t9 : tie.Need-cast-t9
-cast-t9 c = search needs
+loop-again : tie.Need-loop-again Inv-loop μ-loop
+loop-again c = (search needs, scan-turn (c .before .before .before .before .before .args .limit) (c .before .before .before .before .before .args .f .now) (c .before .before .before .loop .i) _ (c .before .before .before .loop .inv .1) (c .before .before .loop-test .taken) (c .if1 .left))
 
-sub-t10 : tie.Need-sub-t10
-sub-t10 c = opposite-fits _ (c .before .before .before .before .before .digits .ensures .1)
-
-returns-4 : tie.Need-returns-4
-returns-4 c =
-    let b = c .before .before in
-    let a = b .before .before in
-    ap Number (opposite-value _ (a .before .digits .ensures .1))
-    ∙ minus _ _ _ (a .before .before .before .is-blank .ensures) (a .before .before .if1 .left) _ (a .before .digits .ensures .0) (a .if2 .left) _ (b .before .is-text .ensures) (b .if3 .left) _ (c .before .is-text2 .ensures) (c .if4 .taken)
-
-returns-5 : tie.Need-returns-5
-returns-5 c =
-    let b = c .before .before in
-    let a = b .before .before in
-    wrong _ _ _ (a .before .before .before .is-blank .ensures) (a .before .before .if1 .left) _ (a .before .digits .ensures .0) (a .if2 .left) _ (b .before .is-text .ensures) (b .if3 .left) _ (c .before .is-text2 .ensures) (c .if4 .left)
+returns-2 : tie.Need-returns-2 Inv-loop μ-loop
+returns-2 c =
+    let a = c .before .before .before .args in
+    scan-end (c .before .before .before .args .limit) (c .before .before .before .args .f .now) (c .before .loop .i) _ (c .before .loop .inv .1) (c .loop-test .left) ∙ scanned (a .limit) (a .f .now) (sym (c .before .before .before .pre))
 
 pub read-columns-spec : {M : Type 1} → statement M
 read-columns-spec =
     tie.close
     (tie.spec
-    is-blank-requires
+    Inv-loop
+    μ-loop
+    loop-holds
+    shared-slice-read-if1
+    signed-requires
     returns
-    digits-requires
-    returns-2
-    is-text-requires
-    cast-t7
-    returns-3
-    is-text-requires-2
-    cast-t9
-    sub-t10
-    returns-4
-    returns-5)
+    add-i
+    loop-less
+    loop-again
+    returns-2)

@@ -9,25 +9,43 @@ use Rattle.grid.specs.Memories.{colWidth, rowHeight}
 use Rattle.grid.specs.declared.Memory.{Memory}
 use Rattle.grid.specs.declared.GridLayout.{GridLayout}
 use Rattle.grid.specs.declared.BareGrid.{BareGrid}
+use Rattle.grid.specs.declared.GridSpot.{GridSpot}
 
 abbrev pub memoryOf : List Float → ℕ → List Float → ℕ → Memory
 memoryOf ws cols hs rows = record { «col_widths» = ws; cols = cols; «row_heights» = hs; rows = rows }
 
 -- the previous widths and heights, then those of this pass
-abbrev pub gridOf : BareGrid → List Float → List Float → List Float → List Float → GridLayout
-gridOf g pw ph ws hs = record {
+abbrev pub gridOf : BareGrid → GridSpot → List Float → List Float → List Float → List Float → GridLayout
+gridOf g s pw ph ws hs = record {
   «is_first_frame» = g .«is_first_frame»;
   «prev_state» = memoryOf pw (g .«prev_cols») ph (g .«prev_rows»);
-  «curr_state» = memoryOf ws (g .cols) hs (g .rows);
+  «curr_state» = memoryOf ws (s .cols) hs (s .rows);
   «initial_available» = g .«initial_available»;
   «sizing_pass» = g .«sizing_pass»;
   «num_columns» = g .«num_columns»;
   spacing = g .spacing;
   «min_cell_size» = g .«min_cell_size»;
   «max_cell_size» = g .«max_cell_size»;
-  col = g .col;
-  row = g .row;
+  col = s .col;
+  row = s .row;
 }
+
+-- a grid taken apart
+abbrev pub bareOf : GridLayout → BareGrid
+bareOf g = record {
+  «is_first_frame» = g .«is_first_frame»;
+  «prev_cols» = g .«prev_state» .cols;
+  «prev_rows» = g .«prev_state» .rows;
+  «initial_available» = g .«initial_available»;
+  «sizing_pass» = g .«sizing_pass»;
+  «num_columns» = g .«num_columns»;
+  spacing = g .spacing;
+  «min_cell_size» = g .«min_cell_size»;
+  «max_cell_size» = g .«max_cell_size»;
+}
+
+abbrev pub spotOf : GridLayout → GridSpot
+spotOf g = record { cols = g .«curr_state» .cols; rows = g .«curr_state» .rows; col = g .col; row = g .row }
 
 -- what an advance leaves at its column and its row
 unfoldable pub notedSize : GridLayout → Rect → Vec2

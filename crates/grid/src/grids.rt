@@ -5,6 +5,7 @@ use crate::Moved;
 use crate::Saved;
 use crate::lent;
 use crate::lent::bare;
+use crate::lent::spot;
 use crate::lent::whole;
 use crate::memories::col_width;
 use crate::memories::empty_memory;
@@ -180,7 +181,14 @@ pub fn next_cell(grid: GridLayout, cursor: Rect, child_size: Vec2) -> Rect
 {
     let widths = widths_of(grid.prev_state);
     let heights = heights_of(grid.prev_state);
-    lent::next_cell(bare(grid), &widths, &heights, cursor, child_size)
+    lent::next_cell(
+        bare(grid),
+        spot(grid),
+        &widths,
+        &heights,
+        cursor,
+        child_size,
+    )
 }
 
 pub fn align_size_within_rect(size: Vec2, frame: Rect) -> Rect
@@ -198,10 +206,11 @@ pub fn advance(grid: GridLayout, cursor: Rect, widget: Rect) -> Moved
     let mut widths = widths_of(grid.curr_state);
     let mut heights = heights_of(grid.curr_state);
     let b = bare(grid);
-    let c = lent::advanced_cursor(b, &prev_widths, cursor);
-    let g = lent::advance(b, &mut widths, &mut heights, widget);
+    let s = spot(grid);
+    let c = lent::advanced_cursor(b, s, &prev_widths, cursor);
+    let g = lent::advance(b, s, &mut widths, &mut heights, widget);
     Moved {
-        grid: whole(g, grid.prev_state, widths, heights),
+        grid: whole(b, g, grid.prev_state, widths, heights),
         cursor: c,
     }
 }
@@ -211,10 +220,11 @@ pub fn end_row(grid: GridLayout, cursor: Rect) -> Moved
 {
     let heights = heights_of(grid.curr_state);
     let b = bare(grid);
-    let c = lent::ended_cursor(b, &heights, cursor);
-    let g = lent::end_row(b);
+    let s = spot(grid);
+    let c = lent::ended_cursor(b, s, &heights, cursor);
+    let g = lent::end_row(s);
     Moved {
-        grid: whole(g, grid.prev_state, widths_of(grid.curr_state), heights),
+        grid: whole(b, g, grid.prev_state, widths_of(grid.curr_state), heights),
         cursor: c,
     }
 }

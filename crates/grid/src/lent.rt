@@ -1,6 +1,7 @@
 // GridLayout's calls on lent arrays: the cores of those in `grids`. Each holds for the grid that the bare one and the arrays make.
 use crate::BareGrid;
 use crate::GridLayout;
+use crate::GridSpot;
 use crate::MAX_COLS;
 use crate::MAX_ROWS;
 use crate::Memory;
@@ -17,14 +18,14 @@ ghost use Prim.Native.Nat.{_<_};
 ghost use lib.ListN.{length};
 ghost use lib.Ieee.{Float};
 ghost use Rattle.emath.specs.declared.Rect.{Rect as Place};
+ghost use Rattle.grid.specs.declared.BareGrid.{BareGrid as Bare};
 ghost use Rattle.grid.specs.Grids.{nextWidth, nextCell, advance, endRow};
-ghost use Rattle.grid.specs.Lent.{gridOf, notedSize};
+ghost use Rattle.grid.specs.Lent.{gridOf, bareOf, spotOf, notedSize};
 
 pub fn bare(grid: GridLayout) -> BareGrid
-    ensures { λ g. ⌜ gridOf g (grid .«prev_state» .«col_widths») (grid .«prev_state» .«row_heights») (grid .«curr_state» .«col_widths») (grid .«curr_state» .«row_heights») ≡ grid ⌝ }
+    ensures { λ g. ⌜ g ≡ bareOf grid ⌝ }
 {
     let prev = grid.prev_state;
-    let curr = grid.curr_state;
     let available = grid.initial_available;
     let spacing = grid.spacing;
     let smallest = grid.min_cell_size;
@@ -33,31 +34,45 @@ pub fn bare(grid: GridLayout) -> BareGrid
         is_first_frame: grid.is_first_frame,
         prev_cols: prev.cols,
         prev_rows: prev.rows,
-        cols: curr.cols,
-        rows: curr.rows,
         initial_available: available,
         sizing_pass: grid.sizing_pass,
         num_columns: grid.num_columns,
         spacing: spacing,
         min_cell_size: smallest,
         max_cell_size: largest,
+    }
+}
+
+pub fn spot(grid: GridLayout) -> GridSpot
+    ensures { λ s. ⌜ s ≡ spotOf grid ⌝ }
+{
+    let curr = grid.curr_state;
+    GridSpot {
+        cols: curr.cols,
+        rows: curr.rows,
         col: grid.col,
         row: grid.row,
     }
 }
 
 // The arrays of `prev` beside those of this pass.
-pub fn whole(grid: BareGrid, prev: Memory, widths: [f32; 32], heights: [f32; 128]) -> GridLayout
-    ensures { λ g. ⌜ g ≡ gridOf grid (prev .«col_widths») (prev .«row_heights») widths heights ⌝ }
+pub fn whole(
+    grid: BareGrid,
+    spot: GridSpot,
+    prev: Memory,
+    widths: [f32; 32],
+    heights: [f32; 128],
+) -> GridLayout
+    ensures { λ g. ⌜ g ≡ gridOf grid spot (prev .«col_widths») (prev .«row_heights») widths heights ⌝ }
 {
     let mut before = prev;
     before.cols = grid.prev_cols;
     before.rows = grid.prev_rows;
     let curr = Memory {
         col_widths: widths,
-        cols: grid.cols,
+        cols: spot.cols,
         row_heights: heights,
-        rows: grid.rows,
+        rows: spot.rows,
     };
     let available = grid.initial_available;
     let spacing = grid.spacing;
@@ -73,32 +88,33 @@ pub fn whole(grid: BareGrid, prev: Memory, widths: [f32; 32], heights: [f32; 128
         spacing: spacing,
         min_cell_size: smallest,
         max_cell_size: largest,
-        col: grid.col,
-        row: grid.row,
+        col: spot.col,
+        row: spot.row,
     }
 }
 
 // A sizing pass is as narrow as can be.
-fn next_width(grid: BareGrid, prev_widths: &[f32]) -> f32
-    ensures { λ r. ⌜ r ≡ nextWidth (gridOf grid (now («prev_widths» .entry)) [] [] []) ⌝ }
+fn next_width(grid: BareGrid, spot: GridSpot, prev_widths: &[f32]) -> f32
+    ensures { λ r. ⌜ r ≡ nextWidth (gridOf grid spot (now («prev_widths» .entry)) [] [] []) ⌝ }
 {
     if grid.sizing_pass {
         return 0.0;
     }
-    entry(prev_widths, grid.prev_cols, grid.col, 0.0)
+    entry(prev_widths, grid.prev_cols, spot.col, 0.0)
 }
 
 pub fn next_cell(
     grid: BareGrid,
+    spot: GridSpot,
     prev_widths: &[f32],
     prev_heights: &[f32],
     cursor: Rect,
     child_size: Vec2,
 ) -> Rect
-    ensures { λ r. ⌜ ((ws hs : List Float) → r ≡ nextCell 5 (gridOf grid (now («prev_widths» .entry)) (now («prev_heights» .entry)) ws hs) cursor «child_size») ⌝ }
+    ensures { λ r. ⌜ ((ws hs : List Float) → r ≡ nextCell 5 (gridOf grid spot (now («prev_widths» .entry)) (now («prev_heights» .entry)) ws hs) cursor «child_size») ⌝ }
 {
-    let width = next_width(grid, prev_widths);
-    let height = entry(prev_heights, grid.prev_rows, grid.row, grid.min_cell_size.y);
+    let width = next_width(grid, spot, prev_widths);
+    let height = entry(prev_heights, grid.prev_rows, spot.row, grid.min_cell_size.y);
     let size = Vec2 {
         x: max(child_size.x, width),
         y: max(child_size.y, height),
@@ -111,27 +127,39 @@ pub fn next_cell(
 }
 
 // The entries that an advance leaves at its column and its row.
-pub fn noted_size(grid: BareGrid, widths: &[f32], heights: &[f32], widget: Rect) -> Vec2
-    ensures { λ r. ⌜ ((pw ph : List Float) → r ≡ notedSize (gridOf grid pw ph (now (widths .entry)) (now (heights .entry))) widget) ⌝ }
+pub fn noted_size(
+    grid: BareGrid,
+    spot: GridSpot,
+    widths: &[f32],
+    heights: &[f32],
+    widget: Rect,
+) -> Vec2
+    ensures { λ r. ⌜ ((pw ph : List Float) → r ≡ notedSize (gridOf grid spot pw ph (now (widths .entry)) (now (heights .entry))) widget) ⌝ }
 {
     let width = max(widget.width(), grid.min_cell_size.x);
     let height = max(widget.height(), grid.min_cell_size.y);
     Vec2 {
-        x: max(entry(widths, grid.cols, grid.col, 0.0), width),
-        y: max(entry(heights, grid.rows, grid.row, 0.0), height),
+        x: max(entry(widths, spot.cols, spot.col, 0.0), width),
+        y: max(entry(heights, spot.rows, spot.row, 0.0), height),
     }
 }
 
 // The widget's size goes to the arrays, each length raised to the minimum cell.
-fn note(grid: BareGrid, widths: &mut [f32], heights: &mut [f32], widget: Rect) -> BareGrid
-    requires { ⌜ (grid .col < 32) × (grid .row < 128) ⌝ }
+fn note(
+    grid: BareGrid,
+    spot: GridSpot,
+    widths: &mut [f32],
+    heights: &mut [f32],
+    widget: Rect,
+) -> GridSpot
+    requires { ⌜ (spot .col < 32) × (spot .row < 128) ⌝ }
     requires { ⌜ (length (now widths) ≡ 32) × (length (now heights) ≡ 128) ⌝ }
-    ensures { λ r. ⌜ ((pw ph : List Float) (c : Place) → gridOf r pw ph (now (widths .exit)) (now (heights .exit)) ≡ advance (gridOf grid pw ph (now (widths .entry)) (now (heights .entry))) c widget .grid) ⌝ }
+    ensures { λ r. ⌜ ((pw ph : List Float) (c : Place) → gridOf grid r pw ph (now (widths .exit)) (now (heights .exit)) ≡ advance (gridOf grid spot pw ph (now (widths .entry)) (now (heights .entry))) c widget .grid) ⌝ }
 {
-    let col = grid.col;
-    let row = grid.row;
-    let cols = grid.cols;
-    let rows = grid.rows;
+    let col = spot.col;
+    let row = spot.row;
+    let cols = spot.cols;
+    let rows = spot.rows;
     raise(widths, cols, col, max(widget.width(), grid.min_cell_size.x));
     raise(
         heights,
@@ -139,32 +167,39 @@ fn note(grid: BareGrid, widths: &mut [f32], heights: &mut [f32], widget: Rect) -
         row,
         max(widget.height(), grid.min_cell_size.y),
     );
-    let mut g = grid;
-    g.cols = raised_count(cols, col + 1);
-    g.rows = raised_count(rows, row + 1);
-    g.col = col + 1;
-    g
+    GridSpot {
+        cols: raised_count(cols, col + 1),
+        rows: raised_count(rows, row + 1),
+        col: col + 1,
+        row: row,
+    }
 }
 
 // Where the grid has no room nothing changes.
-pub fn advance(grid: BareGrid, widths: &mut [f32], heights: &mut [f32], widget: Rect) -> BareGrid
+pub fn advance(
+    grid: BareGrid,
+    spot: GridSpot,
+    widths: &mut [f32],
+    heights: &mut [f32],
+    widget: Rect,
+) -> GridSpot
     requires { ⌜ (length (now widths) ≡ 32) × (length (now heights) ≡ 128) ⌝ }
-    ensures { λ r. ⌜ ((pw ph : List Float) (c : Place) → gridOf r pw ph (now (widths .exit)) (now (heights .exit)) ≡ advance (gridOf grid pw ph (now (widths .entry)) (now (heights .entry))) c widget .grid) ⌝ }
+    ensures { λ r. ⌜ ((pw ph : List Float) (c : Place) → gridOf grid r pw ph (now (widths .exit)) (now (heights .exit)) ≡ advance (gridOf grid spot pw ph (now (widths .entry)) (now (heights .entry))) c widget .grid) ⌝ }
 {
-    if grid.col < MAX_COLS {
-        if grid.row < MAX_ROWS {
-            return note(grid, widths, heights, widget);
+    if spot.col < MAX_COLS {
+        if spot.row < MAX_ROWS {
+            return note(grid, spot, widths, heights, widget);
         }
     }
-    grid
+    spot
 }
 
-pub fn advanced_cursor(grid: BareGrid, prev_widths: &[f32], cursor: Rect) -> Rect
-    ensures { λ r. ⌜ ((ph ws hs : List Float) (w : Place) → r ≡ advance (gridOf grid (now («prev_widths» .entry)) ph ws hs) cursor w .cursor) ⌝ }
+pub fn advanced_cursor(grid: BareGrid, spot: GridSpot, prev_widths: &[f32], cursor: Rect) -> Rect
+    ensures { λ r. ⌜ ((ph ws hs : List Float) (w : Place) → r ≡ advance (gridOf grid spot (now («prev_widths» .entry)) ph ws hs) cursor w .cursor) ⌝ }
 {
-    if grid.col < MAX_COLS {
-        if grid.row < MAX_ROWS {
-            let width = entry(prev_widths, grid.prev_cols, grid.col, grid.min_cell_size.x);
+    if spot.col < MAX_COLS {
+        if spot.row < MAX_ROWS {
+            let width = entry(prev_widths, grid.prev_cols, spot.col, grid.min_cell_size.x);
             let mut c = cursor;
             c.left = cursor.left + (width + grid.spacing.x);
             return c;
@@ -173,24 +208,24 @@ pub fn advanced_cursor(grid: BareGrid, prev_widths: &[f32], cursor: Rect) -> Rec
     cursor
 }
 
-pub fn end_row(grid: BareGrid) -> BareGrid
-    ensures { λ r. ⌜ ((pw ph ws hs : List Float) (c : Place) → gridOf r pw ph ws hs ≡ endRow (gridOf grid pw ph ws hs) c .grid) ⌝ }
+pub fn end_row(spot: GridSpot) -> GridSpot
+    ensures { λ r. ⌜ ((g : Bare) (pw ph ws hs : List Float) (c : Place) → gridOf g r pw ph ws hs ≡ endRow (gridOf g spot pw ph ws hs) c .grid) ⌝ }
 {
-    if grid.row < MAX_ROWS {
-        let mut g = grid;
-        g.col = 0;
-        g.row = grid.row + 1;
-        return g;
+    if spot.row < MAX_ROWS {
+        let mut s = spot;
+        s.col = 0;
+        s.row = spot.row + 1;
+        return s;
     }
-    grid
+    spot
 }
 
 // By the height that this pass has met, or the minimum.
-pub fn ended_cursor(grid: BareGrid, heights: &[f32], cursor: Rect) -> Rect
-    ensures { λ r. ⌜ ((pw ph ws : List Float) → r ≡ endRow (gridOf grid pw ph ws (now (heights .entry))) cursor .cursor) ⌝ }
+pub fn ended_cursor(grid: BareGrid, spot: GridSpot, heights: &[f32], cursor: Rect) -> Rect
+    ensures { λ r. ⌜ ((pw ph ws : List Float) → r ≡ endRow (gridOf grid spot pw ph ws (now (heights .entry))) cursor .cursor) ⌝ }
 {
-    if grid.row < MAX_ROWS {
-        let height = entry(heights, grid.rows, grid.row, grid.min_cell_size.y);
+    if spot.row < MAX_ROWS {
+        let height = entry(heights, spot.rows, spot.row, grid.min_cell_size.y);
         let mut c = cursor;
         c.left = grid.initial_available.left;
         c.top = cursor.top + grid.spacing.y + height;

@@ -41,19 +41,23 @@ pub struct GridLayout {
     pub row: usize,
 }
 
-// A grid without the arrays of its memories, which are lent beside it: what a pass carries from record to record.
+// What a pass leaves as it is of a grid, without the arrays, which are lent beside it.
 pub struct BareGrid {
     pub is_first_frame: bool,
     pub prev_cols: usize,
     pub prev_rows: usize,
-    pub cols: usize,
-    pub rows: usize,
     pub initial_available: Rect,
     pub sizing_pass: bool,
     pub num_columns: usize,
     pub spacing: Vec2,
     pub min_cell_size: Vec2,
     pub max_cell_size: Vec2,
+}
+
+// What a pass carries from cell to cell: how many columns and rows it remembers so far, and where it is.
+pub struct GridSpot {
+    pub cols: usize,
+    pub rows: usize,
     pub col: usize,
     pub row: usize,
 }

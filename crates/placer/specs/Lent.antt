@@ -8,19 +8,27 @@ use Rattle.emath.specs.declared.Rect.{Rect}
 use Rattle.layout.specs.Refusals.{regionFault}
 use Rattle.layout.specs.declared.Layout.{Layout}
 use Rattle.layout.specs.declared.Region.{Region}
-use Rattle.grid.specs.Lent.{gridOf, notedSize}
+use Rattle.grid.specs.Lent.{gridOf, notedSize, bareOf as bareGrid, spotOf as gridSpot}
 use Rattle.grid.specs.declared.GridLayout.{GridLayout}
 use Rattle.placer.specs.declared.Placer.{Placer}
 use Rattle.placer.specs.declared.PlacerAnswer.{PlacerAnswer}
 use Rattle.placer.specs.declared.BarePlacer.{BarePlacer}
-use Rattle.placer.specs.declared.BareAnswer.{BareAnswer}
+use Rattle.placer.specs.declared.Spot.{Spot}
+use Rattle.placer.specs.declared.SpotAnswer.{SpotAnswer}
 
 -- the previous widths and heights, then those of this pass
-abbrev pub placerOf : BarePlacer → List Float → List Float → List Float → List Float → Placer
-placerOf p pw ph ws hs = record { «has_grid» = p .«has_grid»; grid = gridOf (p .grid) pw ph ws hs; layout = p .layout; region = p .region }
+abbrev pub placerOf : BarePlacer → Spot → List Float → List Float → List Float → List Float → Placer
+placerOf p s pw ph ws hs = record { «has_grid» = p .«has_grid»; grid = gridOf (p .grid) (s .grid) pw ph ws hs; layout = p .layout; region = s .region }
 
-abbrev pub answerOf : BareAnswer → List Float → List Float → List Float → List Float → PlacerAnswer
-answerOf a pw ph ws hs = record { number = a .number; placer = placerOf (a .placer) pw ph ws hs }
+abbrev pub answerOf : BarePlacer → SpotAnswer → List Float → List Float → List Float → List Float → PlacerAnswer
+answerOf p a pw ph ws hs = record { number = a .number; placer = placerOf p (a .spot) pw ph ws hs }
+
+-- a placer taken apart
+abbrev pub bareOf : Placer → BarePlacer
+bareOf p = record { «has_grid» = p .«has_grid»; grid = bareGrid (p .grid); layout = p .layout }
+
+abbrev pub spotOf : Placer → Spot
+spotOf p = record { region = p .region; grid = gridSpot (p .grid) }
 
 -- any placer of a layout and a region
 abbrev pub placerWith : Bool → GridLayout → Layout → Region → Placer

@@ -3,6 +3,7 @@
 // table with the numbers of `faults`.
 use grid::BareGrid;
 use grid::GridLayout;
+use grid::GridSpot;
 use layout::Layout;
 use layout::Region;
 
@@ -27,15 +28,20 @@ pub struct PlacerAnswer {
     pub placer: Placer,
 }
 
-// A placer without the arrays of its grid's memories, which are lent beside it: what a pass carries from record to record.
+// What a pass leaves as it is of a placer, without the arrays of its grid's memories, which are lent beside it.
 pub struct BarePlacer {
     pub has_grid: bool,
     pub grid: BareGrid,
     pub layout: Layout,
-    pub region: Region,
 }
 
-pub struct BareAnswer {
+// What a pass carries from record to record.
+pub struct Spot {
+    pub region: Region,
+    pub grid: GridSpot,
+}
+
+pub struct SpotAnswer {
     pub number: u8,
-    pub placer: BarePlacer,
+    pub spot: Spot,
 }

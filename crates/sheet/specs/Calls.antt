@@ -14,11 +14,12 @@ use Rattle.placer.specs.Lent.{placerOf}
 use Rattle.placer.specs.declared.Placer.{Placer}
 use Rattle.placer.specs.declared.PlacerAnswer.{PlacerAnswer}
 use Rattle.placer.specs.declared.BarePlacer.{BarePlacer}
+use Rattle.placer.specs.declared.Spot.{Spot}
 use Rattle.records.specs.declared.Step.{Step}
 use Rattle.records.specs.declared.Step.the-variants.{Widget, Space, RowHeight, MaxWidth, MaxHeight, MinWidth, MinHeight, RowEnd}
 use Rattle.records.specs.declared.Record.{Record}
 use Rattle.records.specs.declared.Record.the-variants as record-of
-use Rattle.sheet.specs.declared.BareMoved.{BareMoved}
+use Rattle.sheet.specs.declared.SpotMoved.{SpotMoved}
 use Rattle.sheet.specs.Pass.{cellOf, widgetStep}
 
 -- what a record gives: its number (0: none), the placer after it; how many W it is, and a W's rectangles
@@ -30,12 +31,12 @@ pub record Moved : Type 0 where
   pub widget : Rect
 
 -- with the arrays that are lent
-abbrev pub movedOf : BareMoved → List Float → List Float → List Float → List Float → Moved
-movedOf m pw ph ws hs = record { number = m .number; placer = placerOf (m .placer) pw ph ws hs; placed = m .placed; frame = m .frame; widget = m .widget }
+abbrev pub movedOf : BarePlacer → SpotMoved → List Float → List Float → List Float → List Float → Moved
+movedOf p m pw ph ws hs = record { number = m .number; placer = placerOf p (m .spot) pw ph ws hs; placed = m .placed; frame = m .frame; widget = m .widget }
 
 -- a placer without fault, and arrays of their lengths
-pub record Ready (p : BarePlacer) (pw ph ws hs : List Float) : Type 0 where
-  pub none : placerFault (placerOf p pw ph ws hs) ≡ 0
+pub record Ready (p : BarePlacer) (s : Spot) (pw ph ws hs : List Float) : Type 0 where
+  pub none : placerFault (placerOf p s pw ph ws hs) ≡ 0
   pub cols : length ws ≡ 32
   pub rows : length hs ≡ 128
 

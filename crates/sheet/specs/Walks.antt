@@ -10,8 +10,9 @@ use Rattle.emath.specs.declared.Rect.{Rect}
 use Rattle.emath.specs.declared.Vec2.{Vec2}
 use Rattle.placer.specs.Lent.{placerOf}
 use Rattle.placer.specs.declared.Placer.{Placer}
+use Rattle.placer.specs.declared.BarePlacer.{BarePlacer}
 use Rattle.records.specs.Records.{recordOf, rest}
-use Rattle.sheet.specs.declared.BareRun.{BareRun}
+use Rattle.sheet.specs.declared.SpotRun.{SpotRun}
 use Rattle.sheet.specs.Sheets.{inTicks}
 use Rattle.sheet.specs.Slices.{edges}
 use Rattle.sheet.specs.Calls.{recordMoved}
@@ -29,8 +30,8 @@ pub record Run : Type 0 where
   pub placer : Placer
 
 -- with the arrays that are lent
-abbrev pub runOf : BareRun → List Float → List Float → List Float → List Float → Run
-runOf r pw ph ws hs = record { number = r .number; at = r .at; placer = placerOf (r .placer) pw ph ws hs }
+abbrev pub runOf : BarePlacer → SpotRun → List Float → List Float → List Float → List Float → Run
+runOf p r pw ph ws hs = record { number = r .number; at = r .at; placer = placerOf p (r .spot) pw ph ws hs }
 
 pub record Walk : Type 0 where
   pub run : Run

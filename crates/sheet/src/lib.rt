@@ -1,28 +1,28 @@
 // A sheet's pass: the rules in specs/, the call that runs them, and what is proved of them.
 use emath::Rect;
 use grid::Memory;
-use placer::BarePlacer;
+use placer::Spot;
 
 pub mod cells;
 pub mod passing;
 mod steps;
 mod walk;
 
-// What a record gives: its number (0: none), the placer after it, the given one where it is refused; how many W it is, 1 or 0, and a W's
-// rectangles.
-pub struct BareMoved {
+// What a record gives: its number (0: none), what the pass carries on, the given one where it is refused; how many W it is, 1 or 0, and a
+// W's rectangles.
+pub struct SpotMoved {
     pub number: u8,
-    pub placer: BarePlacer,
+    pub spot: Spot,
     pub placed: usize,
     pub frame: Rect,
     pub widget: Rect,
 }
 
-// How far a run came: a refusal's number (0: none) and record, and the placer.
-pub struct BareRun {
+// How far a run came: a refusal's number (0: none) and record, and what it carried.
+pub struct SpotRun {
     pub number: u8,
     pub at: usize,
-    pub placer: BarePlacer,
+    pub spot: Spot,
 }
 
 // Whether a pass is accepted, or the number of document 01's table and the record, from 1.

@@ -1,7 +1,7 @@
 // One pass over a sheet's text, with a memory or none, and a lent slice for the rectangles.
-use crate::BareRun;
 use crate::Laid;
 use crate::Passed;
+use crate::SpotRun;
 use crate::walk::run;
 use emath::Rect;
 use emath::Vec2;
@@ -10,9 +10,11 @@ use grid::GridLayout;
 use grid::Memory;
 use grid::memories::heights_of;
 use grid::memories::widths_of;
+use placer::BarePlacer;
 use placer::Placer;
 use placer::PlacerAnswer;
 use placer::lent::bare;
+use placer::lent::spot;
 use placer::lent::whole;
 use placer::rules::save_grid;
 use records::Checked;
@@ -66,23 +68,24 @@ fn refused(number: u8, at: usize, memory: Memory) -> Passed
 fn finish(
     grid: bool,
     memory: Memory,
-    r: BareRun,
+    placer: BarePlacer,
+    r: SpotRun,
     prev: Memory,
     widths: [f32; 32],
     heights: [f32; 128],
 ) -> Passed
-    ensures { λ p. ⌜ p ≡ passedOf (outcomeOf grid memory (ranOf (runOf r (prev .«col_widths») (prev .«row_heights») widths heights))) ⌝ }
+    ensures { λ p. ⌜ p ≡ passedOf (outcomeOf grid memory (ranOf (runOf placer r (prev .«col_widths») (prev .«row_heights») widths heights))) ⌝ }
 {
     let number = r.number;
     if number != 0 {
         return refused(number, r.at, memory);
     }
-    let p = r.placer;
-    let region = p.region;
+    let s = r.spot;
+    let region = s.region;
     let plate = region.min_rect;
     let laid = Laid::Accepted;
     if grid {
-        let saved = save_grid(whole(p, prev, widths, heights));
+        let saved = save_grid(whole(placer, s, prev, widths, heights));
         let kept = saved.memory;
         return Passed {
             laid,
@@ -163,12 +166,14 @@ fn go_on(
     let prev_heights = heights_of(prev);
     let mut widths = widths_of(g.curr_state);
     let mut heights = heights_of(g.curr_state);
+    let b = bare(p);
     let r = run(
         text,
         from,
         first,
         most,
-        bare(p),
+        b,
+        spot(p),
         &prev_widths,
         &prev_heights,
         &mut widths,
@@ -176,7 +181,7 @@ fn go_on(
         spacing,
         out,
     );
-    finish(grid, memory, r, prev, widths, heights)
+    finish(grid, memory, b, r, prev, widths, heights)
 }
 
 // Without G: the steps from the second record on.

@@ -1,5 +1,5 @@
 // One record after H and G: the calls that it names. The placer has no fault, and its grid's arrays are lent beside it.
-use crate::BareMoved;
+use crate::SpotMoved;
 use emath::Rect;
 use emath::Vec2;
 use emath::faults::edges_fault;
@@ -9,8 +9,9 @@ use emath::faults::or_else;
 use emath::faults::outside_domain;
 use emath::faults::pair_fault;
 use emath::faults::size_fault;
-use placer::BareAnswer;
 use placer::BarePlacer;
+use placer::Spot;
+use placer::SpotAnswer;
 use placer::faults::cell_fault;
 use placer::lent;
 use records::Record;
@@ -19,14 +20,15 @@ ghost use mathlib.Core.Path.{_≡_};
 ghost use mathlib.Core.List.{List};
 ghost use lib.Ieee.{Float};
 ghost use Rattle.layout.specs.Refusals.{zeroRect};
+ghost use Rattle.placer.specs.declared.BarePlacer.{BarePlacer as Bare};
 ghost use Rattle.placer.specs.Lent.{placerOf, answerOf};
 ghost use Rattle.sheet.specs.Calls.{movedOf, givenNumber, answeredNumber, placement, calledBy, stepMoved, recordMoved, Ready};
 
 // What a W's calls are given: 4 to 8.
-fn given_number(placer: BarePlacer, spacing: Vec2, size: Vec2) -> u8
-    ensures { λ n. ⌜ ((pw ph ws hs : List Float) → n ≡ givenNumber (placerOf placer pw ph ws hs) spacing size) ⌝ }
+fn given_number(placer: BarePlacer, spot: Spot, spacing: Vec2, size: Vec2) -> u8
+    ensures { λ n. ⌜ ((pw ph ws hs : List Float) → n ≡ givenNumber (placerOf placer spot pw ph ws hs) spacing size) ⌝ }
 {
-    let g = placer.grid;
+    let g = spot.grid;
     let place = cell_fault(placer.has_grid, g.col, g.row);
     lesser_number(
         size_fault(size),
@@ -46,35 +48,36 @@ fn answered_number(frame: Rect, widget: Rect, past: u8) -> u8
 // W: `next_space`, then `justify_and_align`, then `advance_after_rects`.
 fn place(
     placer: BarePlacer,
+    spot: Spot,
     prev_widths: &[f32],
     prev_heights: &[f32],
     widths: &mut [f32],
     heights: &mut [f32],
     spacing: Vec2,
     size: Vec2,
-) -> BareMoved
-    requires { ⌜ Ready placer (now «prev_widths») (now «prev_heights») (now widths) (now heights) ⌝ }
-    ensures { λ m. ⌜ movedOf m (now («prev_widths» .entry)) (now («prev_heights» .entry)) (now (widths .exit)) (now (heights .exit)) ≡ placement (placerOf placer (now («prev_widths» .entry)) (now («prev_heights» .entry)) (now (widths .entry)) (now (heights .entry))) spacing size ⌝ }
+) -> SpotMoved
+    requires { ⌜ Ready placer spot (now «prev_widths») (now «prev_heights») (now widths) (now heights) ⌝ }
+    ensures { λ m. ⌜ movedOf placer m (now («prev_widths» .entry)) (now («prev_heights» .entry)) (now (widths .exit)) (now (heights .exit)) ≡ placement (placerOf placer spot (now («prev_widths» .entry)) (now («prev_heights» .entry)) (now (widths .entry)) (now (heights .entry))) spacing size ⌝ }
 {
-    let frame = lent::next_space(placer, prev_widths, prev_heights, size, spacing);
-    let widget = lent::justify_and_align(placer, frame, size);
-    let region = lent::region_past(placer, prev_widths, frame, widget, spacing);
-    let past = lent::past_fault(placer, &*widths, &*heights, region, widget);
-    let given = given_number(placer, spacing, size);
+    let frame = lent::next_space(placer, spot, prev_widths, prev_heights, size, spacing);
+    let widget = lent::justify_and_align(placer, spot, frame, size);
+    let region = lent::region_past(placer, spot, prev_widths, frame, widget, spacing);
+    let past = lent::past_fault(placer, spot, &*widths, &*heights, region, widget);
+    let given = given_number(placer, spot, spacing, size);
     let number = or_else(given, answered_number(frame, widget, past));
     if number != 0 {
-        return BareMoved {
+        return SpotMoved {
             number,
-            placer,
+            spot,
             placed: 1,
             frame,
             widget,
         };
     }
-    let p = lent::advance(placer, widths, heights, region, widget);
-    BareMoved {
+    let s = lent::advance(placer, spot, widths, heights, region, widget);
+    SpotMoved {
         number,
-        placer: p,
+        spot: s,
         placed: 1,
         frame,
         widget,
@@ -93,14 +96,14 @@ fn zero_rect() -> Rect
 }
 
 // A record that is one call.
-fn called(a: BareAnswer) -> BareMoved
-    ensures { λ m. ⌜ ((pw ph ws hs : List Float) → movedOf m pw ph ws hs ≡ calledBy (answerOf a pw ph ws hs)) ⌝ }
+fn called(a: SpotAnswer) -> SpotMoved
+    ensures { λ m. ⌜ ((p : Bare) (pw ph ws hs : List Float) → movedOf p m pw ph ws hs ≡ calledBy (answerOf p a pw ph ws hs)) ⌝ }
 {
-    let p = a.placer;
+    let s = a.spot;
     let none = zero_rect();
-    BareMoved {
+    SpotMoved {
         number: a.number,
-        placer: p,
+        spot: s,
         placed: 0,
         frame: none,
         widget: none,
@@ -110,19 +113,21 @@ fn called(a: BareAnswer) -> BareMoved
 // S amount `advance_cursor`; E `end_row`; R height `set_row_height`; L, K, N and T limit the region.
 fn step_moved(
     placer: BarePlacer,
+    spot: Spot,
     prev_widths: &[f32],
     prev_heights: &[f32],
     widths: &mut [f32],
     heights: &mut [f32],
     spacing: Vec2,
     st: Step,
-) -> BareMoved
-    requires { ⌜ Ready placer (now «prev_widths») (now «prev_heights») (now widths) (now heights) ⌝ }
-    ensures { λ m. ⌜ movedOf m (now («prev_widths» .entry)) (now («prev_heights» .entry)) (now (widths .exit)) (now (heights .exit)) ≡ stepMoved (placerOf placer (now («prev_widths» .entry)) (now («prev_heights» .entry)) (now (widths .entry)) (now (heights .entry))) spacing st ⌝ }
+) -> SpotMoved
+    requires { ⌜ Ready placer spot (now «prev_widths») (now «prev_heights») (now widths) (now heights) ⌝ }
+    ensures { λ m. ⌜ movedOf placer m (now («prev_widths» .entry)) (now («prev_heights» .entry)) (now (widths .exit)) (now (heights .exit)) ≡ stepMoved (placerOf placer spot (now («prev_widths» .entry)) (now («prev_heights» .entry)) (now (widths .entry)) (now (heights .entry))) spacing st ⌝ }
 {
     match st {
         Step::Widget(x, y) => place(
             placer,
+            spot,
             prev_widths,
             prev_heights,
             widths,
@@ -130,40 +135,42 @@ fn step_moved(
             spacing,
             Vec2 { x, y },
         ),
-        Step::Space(amount) => called(lent::advance_cursor(placer, amount)),
-        Step::RowHeight(height) => called(lent::set_row_height(placer, height)),
-        Step::MaxWidth(width) => called(lent::set_max_width(placer, width)),
-        Step::MaxHeight(height) => called(lent::set_max_height(placer, height)),
-        Step::MinWidth(width) => called(lent::set_min_width(placer, width)),
-        Step::MinHeight(height) => called(lent::set_min_height(placer, height)),
-        Step::RowEnd => called(lent::end_row(placer, &*heights, spacing)),
+        Step::Space(amount) => called(lent::advance_cursor(placer, spot, amount)),
+        Step::RowHeight(height) => called(lent::set_row_height(placer, spot, height)),
+        Step::MaxWidth(width) => called(lent::set_max_width(placer, spot, width)),
+        Step::MaxHeight(height) => called(lent::set_max_height(placer, spot, height)),
+        Step::MinWidth(width) => called(lent::set_min_width(placer, spot, width)),
+        Step::MinHeight(height) => called(lent::set_min_height(placer, spot, height)),
+        Step::RowEnd => called(lent::end_row(placer, spot, &*heights, spacing)),
     }
 }
 
 // A heading or a grid's options here, or what is no record, is 1; a sheet that was checked has none.
-fn misplaced(placer: BarePlacer) -> BareMoved
-    ensures { λ m. ⌜ ((pw ph ws hs : List Float) → movedOf m pw ph ws hs ≡ calledBy (record { number = 1; placer = placerOf placer pw ph ws hs })) ⌝ }
+fn misplaced(spot: Spot) -> SpotMoved
+    ensures { λ m. ⌜ ((p : Bare) (pw ph ws hs : List Float) → movedOf p m pw ph ws hs ≡ calledBy (record { number = 1; placer = placerOf p spot pw ph ws hs })) ⌝ }
 {
-    called(BareAnswer { number: 1, placer })
+    called(SpotAnswer { number: 1, spot })
 }
 
 pub fn record_moved(
     placer: BarePlacer,
+    spot: Spot,
     prev_widths: &[f32],
     prev_heights: &[f32],
     widths: &mut [f32],
     heights: &mut [f32],
     spacing: Vec2,
     r: Record,
-) -> BareMoved
-    requires { ⌜ Ready placer (now «prev_widths») (now «prev_heights») (now widths) (now heights) ⌝ }
-    ensures { λ m. ⌜ movedOf m (now («prev_widths» .entry)) (now («prev_heights» .entry)) (now (widths .exit)) (now (heights .exit)) ≡ recordMoved (placerOf placer (now («prev_widths» .entry)) (now («prev_heights» .entry)) (now (widths .entry)) (now (heights .entry))) spacing r ⌝ }
+) -> SpotMoved
+    requires { ⌜ Ready placer spot (now «prev_widths») (now «prev_heights») (now widths) (now heights) ⌝ }
+    ensures { λ m. ⌜ movedOf placer m (now («prev_widths» .entry)) (now («prev_heights» .entry)) (now (widths .exit)) (now (heights .exit)) ≡ recordMoved (placerOf placer spot (now («prev_widths» .entry)) (now («prev_heights» .entry)) (now (widths .entry)) (now (heights .entry))) spacing r ⌝ }
 {
     match r {
-        Record::Heading(_) => misplaced(placer),
-        Record::Grid(_) => misplaced(placer),
+        Record::Heading(_) => misplaced(spot),
+        Record::Grid(_) => misplaced(spot),
         Record::Step(st) => step_moved(
             placer,
+            spot,
             prev_widths,
             prev_heights,
             widths,
@@ -171,6 +178,6 @@ pub fn record_moved(
             spacing,
             st,
         ),
-        Record::Wrong => misplaced(placer),
+        Record::Wrong => misplaced(spot),
     }
 }

@@ -1,9 +1,10 @@
 // The records of a text one after the other.
-use crate::BareRun;
+use crate::SpotRun;
 use crate::cells::put;
 use crate::steps::record_moved;
 use emath::Vec2;
 use placer::BarePlacer;
+use placer::Spot;
 use records::records::next_record;
 use records::records::read_record;
 ghost use mathlib.Core.Path.{_≡_};
@@ -21,33 +22,35 @@ pub fn run(
     first: usize,
     most: usize,
     placer: BarePlacer,
+    spot: Spot,
     prev_widths: &[f32],
     prev_heights: &[f32],
     widths: &mut [f32],
     heights: &mut [f32],
     spacing: Vec2,
     out: &mut [i32],
-) -> BareRun
-    requires { ⌜ Ready placer (now «prev_widths») (now «prev_heights») (now widths) (now heights) ⌝ }
+) -> SpotRun
+    requires { ⌜ Ready placer spot (now «prev_widths») (now «prev_heights») (now widths) (now heights) ⌝ }
     requires { ⌜ (from ≤ length (now text)) × (first + most ≤ 600) ⌝ }
     requires { ⌜ 8 * widgets (recordsFrom most (drop from (now text))) ≤ length (now out) ⌝ }
-    ensures { λ r. ⌜ record { run = runOf r (now («prev_widths» .entry)) (now («prev_heights» .entry)) (now (widths .exit)) (now (heights .exit)); slice = now (out .exit) } ≡ walked most spacing first (placerOf placer (now («prev_widths» .entry)) (now («prev_heights» .entry)) (now (widths .entry)) (now (heights .entry))) (drop from (now (text .entry))) (now (out .entry)) 0 ⌝ }
+    ensures { λ r. ⌜ record { run = runOf placer r (now («prev_widths» .entry)) (now («prev_heights» .entry)) (now (widths .exit)) (now (heights .exit)); slice = now (out .exit) } ≡ walked most spacing first (placerOf placer spot (now («prev_widths» .entry)) (now («prev_heights» .entry)) (now (widths .entry)) (now (heights .entry))) (drop from (now (text .entry))) (now (out .entry)) 0 ⌝ }
 {
-    let mut p = placer;
+    let mut s = spot;
     let mut at = from;
     let mut n = first;
     let mut w: usize = 0;
     let mut left = most;
     while 0 < left {
         if text.len() <= at {
-            return BareRun {
+            return SpotRun {
                 number: 0,
                 at: 0,
-                placer: p,
+                spot: s,
             };
         }
         let m = record_moved(
-            p,
+            placer,
+            s,
             prev_widths,
             prev_heights,
             widths,
@@ -56,23 +59,23 @@ pub fn run(
             read_record(text, at),
         );
         let number = m.number;
-        let q = m.placer;
+        let next = m.spot;
         if number != 0 {
-            return BareRun {
+            return SpotRun {
                 number,
                 at: n,
-                placer: q,
+                spot: next,
             };
         }
         w = put(out, w, m.placed, m.frame, m.widget);
-        p = q;
+        s = next;
         at = next_record(text, at);
         n += 1;
         left -= 1;
     }
-    BareRun {
+    SpotRun {
         number: 0,
         at: 0,
-        placer: p,
+        spot: s,
     }
 }

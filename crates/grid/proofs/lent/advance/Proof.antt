@@ -1,7 +1,7 @@
 -- `grid::lent::advance` meets its contract. Assumes nothing.
-use borrow.Author.Needs.{needs}
 use borrow.Author.Tests.{le-ltb, lt-ltb}
 use Rattle.grid.specs.Grids.{advance}
+use borrow.Author.Needs.{needs}
 use Rattle.grid.proofs.lent.advance.Statement.{statement}
 use Rattle.grid.proofs.lent.advance.Tie as tie
 

@@ -2,6 +2,7 @@
 use borrow.Author.Tests.{le-ltb, lt-ltb}
 use Rattle.grid.specs.Memories.{colWidth}
 use Rattle.grid.specs.Grids.{prevColWidth, advanced, advance}
+use borrow.Author.Needs.{needs}
 use Rattle.grid.proofs.lent.advanced_cursor.Statement.{statement}
 use Rattle.grid.proofs.lent.advanced_cursor.Tie as tie
 
@@ -18,4 +19,4 @@ unfolding advance
 returns-3 c ph ws hs w = rw (le-ltb _ _ (c .if1 .left))
 
 pub advanced-cursor-spec : {M : Type 1} → statement M
-advanced-cursor-spec = tie.close (tie.spec (λ c κs. tt) returns returns-2 returns-3)
+advanced-cursor-spec = tie.close (tie.spec (λ c κs. search needs) returns returns-2 returns-3)

@@ -2,6 +2,7 @@
 use borrow.Author.Tests.{le-ltb, lt-ltb}
 use Rattle.grid.specs.Memories.{rowHeight}
 use Rattle.grid.specs.Grids.{rowEnded, endRow}
+use borrow.Author.Needs.{needs}
 use Rattle.grid.proofs.lent.ended_cursor.Statement.{statement}
 use Rattle.grid.proofs.lent.ended_cursor.Tie as tie
 
@@ -14,4 +15,4 @@ unfolding endRow
 returns-2 c pw ph ws = rw (le-ltb _ _ (c .if1 .left))
 
 pub ended-cursor-spec : {M : Type 1} → statement M
-ended-cursor-spec = tie.close (tie.spec (λ c κs. tt) returns returns-2)
+ended-cursor-spec = tie.close (tie.spec (λ c κs. search needs) returns returns-2)

@@ -6,11 +6,11 @@ use Rattle.placer.proofs.lent.answer.Tie as tie
 
 returns : tie.Need-returns
 unfolding placerAnswer
-returns c pw ph ws hs = rw (eq-eqb _ _ (c .if1 .taken))
+returns c p pw ph ws hs = rw (eq-eqb _ _ (c .if1 .taken))
 
 returns-2 : tie.Need-returns-2
 unfolding placerAnswer
-returns-2 c pw ph ws hs = rw (ne-eqb _ _ (c .if1 .left))
+returns-2 c p pw ph ws hs = rw (ne-eqb _ _ (c .if1 .left))
 
 pub answer-spec : {M : Type 1} → statement M
 answer-spec = tie.close (tie.spec returns returns-2)

@@ -4,7 +4,7 @@ use Rattle.sheet.proofs.steps.called.Statement.{statement}
 use Rattle.sheet.proofs.steps.called.Tie as tie
 
 returns : tie.Need-returns
-returns c pw ph ws hs = rw (c .zero-rect .ensures)
+returns c p pw ph ws hs = rw (c .zero-rect .ensures)
 
 pub called-spec : {M : Type 1} → statement M
 called-spec = tie.close (tie.spec (λ c κs. search needs) returns)

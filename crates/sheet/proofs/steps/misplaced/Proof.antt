@@ -4,7 +4,7 @@ use Rattle.sheet.proofs.steps.misplaced.Statement.{statement}
 use Rattle.sheet.proofs.steps.misplaced.Tie as tie
 
 returns : tie.Need-returns
-returns c pw ph ws hs = c .called .ensures pw ph ws hs
+returns c p pw ph ws hs = c .called .ensures p pw ph ws hs
 
 pub misplaced-spec : {M : Type 1} → statement M
 misplaced-spec = tie.close (tie.spec (λ c κs. search needs) returns)

@@ -15,13 +15,13 @@ use Rattle.sheet.proofs.walk.run.Statement.{statement}
 use Rattle.sheet.proofs.walk.run.Tie as tie
 
 abbrev Inv-loop : tie.InvT-loop
-Inv-loop text from first most pw ph ws₀ hs₀ spacing out₀ p₀ at₀ n₀ w₀ left₀ ws hs out p at n w left =
+Inv-loop text from first most placer pw ph ws₀ hs₀ spacing out₀ s₀ at₀ n₀ w₀ left₀ ws hs out s at n w left =
     (length out ≡ length out₀) × (at ≤ length text) × (n + left ≡ first + most) × (8 * (w + widgets (recordsFrom left (drop at text))) ≤ length out)
-    × Ready p pw ph ws hs
-    × (walked left spacing n (placerOf p pw ph ws hs) (drop at text) out w ≡ walked most spacing first (placerOf p₀ pw ph ws₀ hs₀) (drop from text) out₀ 0)
+    × Ready placer s pw ph ws hs
+    × (walked left spacing n (placerOf placer s pw ph ws hs) (drop at text) out w ≡ walked most spacing first (placerOf placer s₀ pw ph ws₀ hs₀) (drop from text) out₀ 0)
 
 abbrev μ-loop : tie.MeasureT-loop
-μ-loop text from first most pw ph ws₀ hs₀ spacing out₀ p₀ at₀ n₀ w₀ left₀ ws hs out p at n w left = left
+μ-loop text from first most placer pw ph ws₀ hs₀ spacing out₀ s₀ at₀ n₀ w₀ left₀ ws hs out s at n w left = left
 
 returns : tie.Need-returns Inv-loop μ-loop
 returns c =
@@ -29,17 +29,17 @@ returns c =
     let l = c .before .before .loop in
     let pw = a .prev-widths .now in
     let ph = a .prev-heights .now in
-    let p = placerOf (l .p) pw ph (l .widths) (l .heights) in
+    let p = placerOf (a .placer) (l .s) pw ph (l .widths) (l .heights) in
     walk-ends (a .text .now) (a .spacing) (l .left) (l .n) (l .at) (l .w) p (l .out) _ (l .inv .5) (c .if1 .taken)
 
 record-moved-requires : tie.Need-record-moved-requires Inv-loop μ-loop
 record-moved-requires c κs = c .before .before .before .before .before .loop .inv .4
 
 same-length-4 : tie.Need-same-length-4 Inv-loop μ-loop
-same-length-4 c = c .before .before .before .before .before .before .record-moved .kept .1 .1 .1 .0 ∙ c .before .before .before .before .before .before .before .before .before .before .before .before .loop .inv .4 .cols ∙ sym (c .before .before .before .before .before .before .before .before .before .before .before .before .before .before .before .before .before .before .pre .0 .cols)
+same-length-4 c = c .before .before .before .before .before .before .record-moved .kept .1 .1 .1 .1 .0 ∙ c .before .before .before .before .before .before .before .before .before .before .before .before .loop .inv .4 .cols ∙ sym (c .before .before .before .before .before .before .before .before .before .before .before .before .before .before .before .before .before .before .pre .0 .cols)
 
 same-length-5 : tie.Need-same-length-5 Inv-loop μ-loop
-same-length-5 c = c .before .before .before .before .before .before .record-moved .kept .1 .1 .1 .1 .0 ∙ c .before .before .before .before .before .before .before .before .before .before .before .before .loop .inv .4 .rows ∙ sym (c .before .before .before .before .before .before .before .before .before .before .before .before .before .before .before .before .before .before .pre .0 .rows)
+same-length-5 c = c .before .before .before .before .before .before .record-moved .kept .1 .1 .1 .1 .1 .0 ∙ c .before .before .before .before .before .before .before .before .before .before .before .before .loop .inv .4 .rows ∙ sym (c .before .before .before .before .before .before .before .before .before .before .before .before .before .before .before .before .before .before .pre .0 .rows)
 
 returns-2 : tie.Need-returns-2 Inv-loop μ-loop
 returns-2 c =
@@ -47,7 +47,7 @@ returns-2 c =
     let l = c .before .before .before .before .before .before .before .before .before .before .before .before .loop in
     let pw = a .prev-widths .now in
     let ph = a .prev-heights .now in
-    let p = placerOf (l .p) pw ph (l .widths) (l .heights) in
+    let p = placerOf (a .placer) (l .s) pw ph (l .widths) (l .heights) in
     let em = c .before .before .before .before .before .before .record-moved .ensures ∙ ap (λ (x : Record). recordMoved p (a .spacing) x) (c .before .before .before .before .before .before .before .read-record .ensures) in
     walk-stops (a .text .now) (a .spacing) (l .left) (l .n) (l .at) (l .w) p (l .out) _ (l .inv .5) (c .before .before .before .before .before .before .before .before .before .before .before .loop-test .taken) (c .before .before .before .before .before .before .before .before .before .before .if1 .left) _ em (c .if2 .taken)
 
@@ -57,7 +57,7 @@ put-requires c κs =
     let l = c .before .before .before .before .before .before .before .before .before .before .before .before .before .loop in
     let pw = a .prev-widths .now in
     let ph = a .prev-heights .now in
-    let p = placerOf (l .p) pw ph (l .widths) (l .heights) in
+    let p = placerOf (a .placer) (l .s) pw ph (l .widths) (l .heights) in
     let em = c .before .before .before .before .before .before .before .record-moved .ensures ∙ ap (λ (x : Record). recordMoved p (a .spacing) x) (c .before .before .before .before .before .before .before .before .read-record .ensures) in
     let r = room-left (a .text .now) (a .spacing) (l .left) (l .n) (l .at) (l .w) p (l .out) _ (l .inv .5) (c .before .before .before .before .before .before .before .before .before .before .before .before .loop-test .taken) (c .before .before .before .before .before .before .before .before .before .before .before .if1 .left) _ em (l .inv .3) in
     ((omega (arith, r), moved-few (a .text .now) (a .spacing) (l .left) (l .n) (l .at) (l .w) p (l .out) _ (l .inv .5) (c .before .before .before .before .before .before .before .before .before .before .before .before .loop-test .taken) (c .before .before .before .before .before .before .before .before .before .before .before .if1 .left) _ em), moved-in-ticks (a .text .now) (a .spacing) (l .left) (l .n) (l .at) (l .w) p (l .out) _ (l .inv .5) (c .before .before .before .before .before .before .before .before .before .before .before .before .loop-test .taken) (c .before .before .before .before .before .before .before .before .before .before .before .if1 .left) _ em (c .before .if2 .left))
@@ -77,13 +77,13 @@ loop-again c =
     let l = c .before .before .before .before .before .before .before .before .before .before .before .before .before .before .before .before .loop in
     let pw = a .prev-widths .now in
     let ph = a .prev-heights .now in
-    let p = placerOf (l .p) pw ph (l .widths) (l .heights) in
+    let p = placerOf (a .placer) (l .s) pw ph (l .widths) (l .heights) in
     let em = c .before .before .before .before .before .before .before .before .before .before .record-moved .ensures ∙ ap (λ (x : Record). recordMoved p (a .spacing) x) (c .before .before .before .before .before .before .before .before .before .before .before .read-record .ensures) in
     let e = c .next-record .ensures in
     let u = c .before .before .put .ensures in
     let k = c .before .before .put .kept .0 in
     let r = room-left (a .text .now) (a .spacing) (l .left) (l .n) (l .at) (l .w) p (l .out) _ (l .inv .5) (c .before .before .before .before .before .before .before .before .before .before .before .before .before .before .before .loop-test .taken) (c .before .before .before .before .before .before .before .before .before .before .before .before .before .before .if1 .left) _ em (l .inv .3) in
-    (k ∙ l .inv .0, rw e (next-within (a .text .now) (l .at)), omega (arith, l .inv .2, c .before .before .before .before .before .before .before .before .before .before .before .before .before .before .before .loop-test .taken), rw (e, u .0) (omega (arith, r, k)), record { none = moved-unfaulted (a .text .now) (a .spacing) (l .left) (l .n) (l .at) (l .w) p (l .out) _ (l .inv .5) (c .before .before .before .before .before .before .before .before .before .before .before .before .before .before .before .loop-test .taken) (c .before .before .before .before .before .before .before .before .before .before .before .before .before .before .if1 .left) _ em (c .before .before .before .before .if2 .left); cols = c .before .before .before .before .before .before .before .before .before .before .record-moved .kept .1 .1 .1 .0 ∙ l .inv .4 .cols; rows = c .before .before .before .before .before .before .before .before .before .before .record-moved .kept .1 .1 .1 .1 .0 ∙ l .inv .4 .rows }, rw (e, u .0, u .1) (walk-goes-on (a .text .now) (a .spacing) (l .left) (l .n) (l .at) (l .w) p (l .out) _ (l .inv .5) (c .before .before .before .before .before .before .before .before .before .before .before .before .before .before .before .loop-test .taken) (c .before .before .before .before .before .before .before .before .before .before .before .before .before .before .if1 .left) _ em (c .before .before .before .before .if2 .left)))
+    (k ∙ l .inv .0, rw e (next-within (a .text .now) (l .at)), omega (arith, l .inv .2, c .before .before .before .before .before .before .before .before .before .before .before .before .before .before .before .loop-test .taken), rw (e, u .0) (omega (arith, r, k)), record { none = moved-unfaulted (a .text .now) (a .spacing) (l .left) (l .n) (l .at) (l .w) p (l .out) _ (l .inv .5) (c .before .before .before .before .before .before .before .before .before .before .before .before .before .before .before .loop-test .taken) (c .before .before .before .before .before .before .before .before .before .before .before .before .before .before .if1 .left) _ em (c .before .before .before .before .if2 .left); cols = c .before .before .before .before .before .before .before .before .before .before .record-moved .kept .1 .1 .1 .1 .0 ∙ l .inv .4 .cols; rows = c .before .before .before .before .before .before .before .before .before .before .record-moved .kept .1 .1 .1 .1 .1 .0 ∙ l .inv .4 .rows }, rw (e, u .0, u .1) (walk-goes-on (a .text .now) (a .spacing) (l .left) (l .n) (l .at) (l .w) p (l .out) _ (l .inv .5) (c .before .before .before .before .before .before .before .before .before .before .before .before .before .before .before .loop-test .taken) (c .before .before .before .before .before .before .before .before .before .before .before .before .before .before .if1 .left) _ em (c .before .before .before .before .if2 .left)))
 
 returns-3 : tie.Need-returns-3 Inv-loop μ-loop
 returns-3 c =
@@ -91,7 +91,7 @@ returns-3 c =
     let l = c .before .loop in
     let pw = a .prev-widths .now in
     let ph = a .prev-heights .now in
-    let p = placerOf (l .p) pw ph (l .widths) (l .heights) in
+    let p = placerOf (a .placer) (l .s) pw ph (l .widths) (l .heights) in
     walk-is-full (a .text .now) (a .spacing) (l .left) (l .n) (l .at) (l .w) p (l .out) _ (l .inv .5) (c .loop-test .left)
 
 pub run-spec : {M : Type 1} → statement M

@@ -20,7 +20,6 @@ use Rattle.grid.specs.Grids.{noted, advanced, advance, rowEnded, endRow}
 use Rattle.grid.specs.Refusals.{memoryFault, maxCellFault, gridFault}
 use Rattle.grid.specs.Lent.{notedSize}
 use Rattle.grid.proofs.Remembered.{entry-there, after, length-after, raised-same, raised-kept, raised-skipped}
-use Rattle.grid.proofs.Advances.{Sound}
 use Rattle.emath.specs.declared.Rect.{Rect}
 use Rattle.grid.specs.declared.Memory.{Memory}
 use Rattle.grid.specs.declared.GridLayout.{GridLayout}

@@ -25,7 +25,6 @@ use layout::Region;
 ghost use mathlib.Core.Path.{_≡_};
 ghost use Prim.Native.Nat.{_+_};
 ghost use lib.Dec.{eqb};
-ghost use Rattle.emath.specs.Domain.{finite};
 ghost use Rattle.grid.specs.Grids.{knownMemory, newGrid, emptyGrid, prevColWidth, prevRowHeight, lastWidth, otherWidth, cellWidth, cellHeight, availableRect, nextCell, alignSizeWithinRect, advance, endRow, save};
 
 pub fn known_memory(known: bool, memory: Memory) -> Memory

@@ -7,7 +7,6 @@ use Rattle.layout.specs.Rules as layout-rules
 use Rattle.layout.specs.Rules.{withCursor}
 use Rattle.layout.specs.declared.Region.{Region}
 use Rattle.grid.specs.Grids as grid-rules
-use Rattle.grid.specs.declared.GridLayout.{GridLayout}
 use Rattle.placer.specs.Rules.{setGrid, withRegion, setCursor, expandToIncludeRect, movedPast, advanceAfterRects, endRow}
 use Rattle.placer.specs.Lent.{placerWith}
 use Rattle.placer.specs.declared.Placer.{Placer}

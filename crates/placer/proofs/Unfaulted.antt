@@ -3,14 +3,13 @@
 use mathlib.Core.Path.{_≡_, refl, sym, ap, _∙_}
 use mathlib.Core.Bool.{Bool, true, false, cond, not, _&&_}
 use mathlib.Core.List.{[], _∷_}
-use Prim.Native.Nat.{ℕ, _≤_, _<_}
+use Prim.Native.Nat.{ℕ, _<_}
 use native.Mathlib.Omega.{arith}
 use lib.Dec.{T, leb, nleb→lt}
 use lib.ListN.{length}
 use Rattle.emath.specs.Refusals.{when, lesser, least, orElse, outside}
 use Rattle.emath.proofs.Refusals.{lesser-none}
 use Rattle.layout.specs.Refusals.{regionFault}
-use Rattle.grid.specs.Grids as grid-rules
 use Rattle.grid.specs.Refusals.{gridFault, directionFault}
 use Rattle.grid.proofs.Unfaulted.{lesser-zero, zero-lesser, advance-fault, end-row-fault}
 use Rattle.placer.specs.Rules.{withRegion, setCursor, expandToIncludeRect, movedPast, advanceAfterRects, endRow}
@@ -21,7 +20,6 @@ use Rattle.emath.specs.declared.Rect.{Rect}
 use Rattle.emath.specs.declared.Vec2.{Vec2}
 use Rattle.layout.specs.declared.Region.{Region}
 use Rattle.placer.specs.declared.Placer.{Placer}
-use Rattle.placer.specs.declared.PlacerAnswer.{PlacerAnswer}
 
 -- ---- a call that sets the region anew
 module _ (p : Placer) (none : placerFault p ≡ 0) where

@@ -4,7 +4,6 @@ use crate::BarePlacer;
 use crate::Placer;
 use crate::Spot;
 use crate::SpotAnswer;
-use crate::faults::cell_fault;
 use crate::faults::row_fault;
 use crate::limits;
 use emath::Rect;

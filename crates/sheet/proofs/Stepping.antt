@@ -1,14 +1,13 @@
 -- A record on a placer without fault: what the code adds up for a W is the rule's number, and an accepted record leaves a placer without
 -- fault. Assumes nothing.
 use mathlib.Core.Path.{_≡_, refl, sym, ap, _∙_}
-use mathlib.Core.Bool.{Bool, true, false, cond}
-use mathlib.Core.List.{[], _∷_}
+use mathlib.Core.Bool.{Bool, true, false}
 use Prim.Native.Nat.{ℕ}
 use native.Mathlib.Omega.{arith}
 use lib.Dec.{eqb}
 use lib.ListN.{length}
 use borrow.Author.Tests.{eq-eqb, ne-eqb, eqb-true}
-use Rattle.emath.specs.Refusals.{least, orElse, sizeFault, pairFault, edgesFault, outside, frameFault}
+use Rattle.emath.specs.Refusals.{least, orElse, sizeFault, pairFault}
 use Rattle.emath.proofs.Refusals.{lesser-none, or-none}
 use Rattle.emath.specs.declared.Rect.{Rect}
 use Rattle.emath.specs.declared.Vec2.{Vec2}
@@ -31,7 +30,7 @@ use Rattle.records.specs.declared.Record.{Record}
 use Rattle.records.specs.declared.Record.the-variants as record-of
 use Rattle.sheet.specs.Pass.{cellOf, widgetFault, widgetStep, gridOf, gridded}
 use Rattle.sheet.proofs.Runs.{widget-placed}
-use Rattle.sheet.specs.Calls.{Moved, givenNumber, answeredNumber, placement, stepMoved, recordMoved}
+use Rattle.sheet.specs.Calls.{givenNumber, answeredNumber, placement, stepMoved, recordMoved}
 
 -- ---- a W
 module _ (p : Placer) (sp s : Vec2) (none : placerFault p ≡ 0) (cols : length (p .grid .«curr_state» .«col_widths») ≡ 32) (rows : length (p .grid .«curr_state» .«row_heights») ≡ 128) where

@@ -1,6 +1,6 @@
 -- A pass over a text as the code walks it.
 use Prim.Native.Nat.{ℕ, _*_, _≤_}
-use mathlib.Core.Bool.{Bool, true, false, cond}
+use mathlib.Core.Bool.{Bool, true, false}
 use mathlib.Core.List.{List, []}
 use lib.IntN.{ℤ}
 use lib.Dec.{eqb}
@@ -18,7 +18,7 @@ use Rattle.records.specs.declared.Record.the-variants as record-of
 use Rattle.records.specs.declared.Checked.{Checked}
 use Rattle.records.specs.declared.Checked.the-variants as checked-of
 use Rattle.sheet.specs.declared.Passed.{Passed}
-use Rattle.sheet.specs.Pass.{Outcome, Ran, refusedAt, outcomeOf, headed, gridded}
+use Rattle.sheet.specs.Pass.{Ran, refusedAt, outcomeOf, headed, gridded}
 use Rattle.sheet.specs.Slices.{passedOf}
 use Rattle.sheet.specs.Walks.{Run, walked}
 

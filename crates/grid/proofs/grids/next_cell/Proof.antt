@@ -1,6 +1,5 @@
 -- `grid::grids::next_cell` meets its contract. Assumes nothing.
 use mathlib.Core.Path.{_∙_}
-use Rattle.grid.specs.Grids.{nextCell}
 use borrow.Author.Needs.{needs}
 use Rattle.grid.proofs.grids.next_cell.Statement.{statement}
 use Rattle.grid.proofs.grids.next_cell.Tie as tie

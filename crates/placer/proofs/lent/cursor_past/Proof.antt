@@ -1,5 +1,4 @@
 -- `placer::lent::cursor_past` meets its contract. Assumes nothing.
-use mathlib.Core.Path.{refl}
 use Rattle.placer.specs.Rules.{movedPast, setCursor}
 use borrow.Author.Needs.{needs}
 use Rattle.placer.proofs.lent.cursor_past.Statement.{statement}

@@ -1,5 +1,4 @@
 -- `placer::lent::region_past` meets its contract. Assumes nothing.
-use mathlib.Core.Path.{_∙_}
 use Rattle.placer.specs.Lent.{placerOf}
 use Rattle.placer.proofs.Parts.{region-past}
 use borrow.Author.Needs.{needs}

@@ -1,5 +1,4 @@
 -- `placer::limits::set_max_width` meets its contract. Assumes nothing.
-use mathlib.Core.Path.{_∙_}
 use Rattle.placer.specs.Rules.{setMaxWidth}
 use borrow.Author.Needs.{needs}
 use Rattle.placer.proofs.limits.set_max_width.Statement.{statement}

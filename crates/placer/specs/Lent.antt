@@ -15,13 +15,16 @@ use Rattle.placer.specs.declared.PlacerAnswer.{PlacerAnswer}
 use Rattle.placer.specs.declared.BarePlacer.{BarePlacer}
 use Rattle.placer.specs.declared.Spot.{Spot}
 use Rattle.placer.specs.declared.SpotAnswer.{SpotAnswer}
+use Rattle.placer.specs.declared.SpotAnswer.the-variants.{Changed, Refused}
 
 -- the previous widths and heights, then those of this pass
 abbrev pub placerOf : BarePlacer → Spot → List Float → List Float → List Float → List Float → Placer
 placerOf p s pw ph ws hs = record { «has_grid» = p .«has_grid»; grid = gridOf (p .grid) (s .grid) pw ph ws hs; layout = p .layout; region = s .region }
 
-abbrev pub answerOf : BarePlacer → SpotAnswer → List Float → List Float → List Float → List Float → PlacerAnswer
-answerOf p a pw ph ws hs = record { number = a .number; placer = placerOf p (a .spot) pw ph ws hs }
+-- a refused call gives the placer back as it was given
+abbrev pub answerOf : BarePlacer → Spot → SpotAnswer → List Float → List Float → List Float → List Float → PlacerAnswer
+answerOf p s (Changed q) pw ph ws hs = record { number = 0; placer = placerOf p q pw ph ws hs }
+answerOf p s (Refused n) pw ph ws hs = record { number = n; placer = placerOf p s pw ph ws hs }
 
 -- a placer taken apart
 abbrev pub bareOf : Placer → BarePlacer

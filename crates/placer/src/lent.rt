@@ -33,6 +33,7 @@ ghost use Rattle.emath.specs.Refusals.{least};
 ghost use Rattle.emath.specs.declared.Rect.{Rect as Frame};
 ghost use Rattle.emath.specs.declared.Vec2.{Vec2 as Spacing};
 ghost use Rattle.placer.specs.declared.BarePlacer.{BarePlacer as Bare};
+ghost use Rattle.placer.specs.declared.Spot.{Spot as Given};
 ghost use Rattle.placer.specs.Rules.{withRegion, nextSpace, justifyAndAlign, movedPast, advanceAfterRects, endRow};
 ghost use Rattle.placer.specs.Refusals.{placerFault, placerAnswer, changed};
 ghost use Rattle.placer.specs.Operations.{checkedAdvanceCursor, checkedEndRow, checkedSetRowHeight, checkedSetMaxWidth, checkedSetMaxHeight, checkedSetMinWidth, checkedSetMinHeight};
@@ -221,25 +222,19 @@ pub fn advance(
 }
 
 // ---- records of one call
-fn answer(number: u8, given: Spot, new: Spot) -> SpotAnswer
-    ensures { λ a. ⌜ ((p : Bare) (pw ph ws hs : List Float) → answerOf p a pw ph ws hs ≡ placerAnswer number (placerOf p given pw ph ws hs) (placerOf p new pw ph ws hs)) ⌝ }
+fn answer(number: u8, new: Spot) -> SpotAnswer
+    ensures { λ a. ⌜ ((p : Bare) (s : Given) (pw ph ws hs : List Float) → answerOf p s a pw ph ws hs ≡ placerAnswer number (placerOf p s pw ph ws hs) (placerOf p new pw ph ws hs)) ⌝ }
 {
     if number == 0 {
-        SpotAnswer {
-            number: number,
-            spot: new,
-        }
+        SpotAnswer::Changed(new)
     } else {
-        SpotAnswer {
-            number: number,
-            spot: given,
-        }
+        SpotAnswer::Refused(number)
     }
 }
 
 // A call that sets the region anew; `before` is its arguments' number.
 fn settled(placer: BarePlacer, spot: Spot, before: u8, region: Region) -> SpotAnswer
-    ensures { λ a. ⌜ ((pw ph ws hs : List Float) → placerFault (placerOf placer spot pw ph ws hs) ≡ 0 → answerOf placer a pw ph ws hs ≡ changed (least (placerFault (placerOf placer spot pw ph ws hs) ∷ before ∷ [])) (placerOf placer spot pw ph ws hs) (withRegion (placerOf placer spot pw ph ws hs) region)) ⌝ }
+    ensures { λ a. ⌜ ((pw ph ws hs : List Float) → placerFault (placerOf placer spot pw ph ws hs) ≡ 0 → answerOf placer spot a pw ph ws hs ≡ changed (least (placerFault (placerOf placer spot pw ph ws hs) ∷ before ∷ [])) (placerOf placer spot pw ph ws hs) (withRegion (placerOf placer spot pw ph ws hs) region)) ⌝ }
 {
     let l = placer.layout;
     let d = l.main_dir;
@@ -247,13 +242,12 @@ fn settled(placer: BarePlacer, spot: Spot, before: u8, region: Region) -> SpotAn
     new.region = region;
     answer(
         or_else(before, outside_domain(region_fault(d, region))),
-        spot,
         new,
     )
 }
 
 pub fn advance_cursor(placer: BarePlacer, spot: Spot, amount: f32) -> SpotAnswer
-    ensures { λ a. ⌜ ((pw ph ws hs : List Float) → placerFault (placerOf placer spot pw ph ws hs) ≡ 0 → answerOf placer a pw ph ws hs ≡ checkedAdvanceCursor (placerOf placer spot pw ph ws hs) amount) ⌝ }
+    ensures { λ a. ⌜ ((pw ph ws hs : List Float) → placerFault (placerOf placer spot pw ph ws hs) ≡ 0 → answerOf placer spot a pw ph ws hs ≡ checkedAdvanceCursor (placerOf placer spot pw ph ws hs) amount) ⌝ }
 {
     let l = placer.layout;
     let d = l.main_dir;
@@ -267,7 +261,7 @@ pub fn advance_cursor(placer: BarePlacer, spot: Spot, amount: f32) -> SpotAnswer
 }
 
 pub fn set_row_height(placer: BarePlacer, spot: Spot, height: f32) -> SpotAnswer
-    ensures { λ a. ⌜ ((pw ph ws hs : List Float) → placerFault (placerOf placer spot pw ph ws hs) ≡ 0 → answerOf placer a pw ph ws hs ≡ checkedSetRowHeight (placerOf placer spot pw ph ws hs) height) ⌝ }
+    ensures { λ a. ⌜ ((pw ph ws hs : List Float) → placerFault (placerOf placer spot pw ph ws hs) ≡ 0 → answerOf placer spot a pw ph ws hs ≡ checkedSetRowHeight (placerOf placer spot pw ph ws hs) height) ⌝ }
 {
     settled(
         placer,
@@ -278,7 +272,7 @@ pub fn set_row_height(placer: BarePlacer, spot: Spot, height: f32) -> SpotAnswer
 }
 
 pub fn set_max_width(placer: BarePlacer, spot: Spot, width: f32) -> SpotAnswer
-    ensures { λ a. ⌜ ((pw ph ws hs : List Float) → placerFault (placerOf placer spot pw ph ws hs) ≡ 0 → answerOf placer a pw ph ws hs ≡ checkedSetMaxWidth (placerOf placer spot pw ph ws hs) width) ⌝ }
+    ensures { λ a. ⌜ ((pw ph ws hs : List Float) → placerFault (placerOf placer spot pw ph ws hs) ≡ 0 → answerOf placer spot a pw ph ws hs ≡ checkedSetMaxWidth (placerOf placer spot pw ph ws hs) width) ⌝ }
 {
     settled(
         placer,
@@ -289,7 +283,7 @@ pub fn set_max_width(placer: BarePlacer, spot: Spot, width: f32) -> SpotAnswer
 }
 
 pub fn set_max_height(placer: BarePlacer, spot: Spot, height: f32) -> SpotAnswer
-    ensures { λ a. ⌜ ((pw ph ws hs : List Float) → placerFault (placerOf placer spot pw ph ws hs) ≡ 0 → answerOf placer a pw ph ws hs ≡ checkedSetMaxHeight (placerOf placer spot pw ph ws hs) height) ⌝ }
+    ensures { λ a. ⌜ ((pw ph ws hs : List Float) → placerFault (placerOf placer spot pw ph ws hs) ≡ 0 → answerOf placer spot a pw ph ws hs ≡ checkedSetMaxHeight (placerOf placer spot pw ph ws hs) height) ⌝ }
 {
     settled(
         placer,
@@ -300,7 +294,7 @@ pub fn set_max_height(placer: BarePlacer, spot: Spot, height: f32) -> SpotAnswer
 }
 
 pub fn set_min_width(placer: BarePlacer, spot: Spot, width: f32) -> SpotAnswer
-    ensures { λ a. ⌜ ((pw ph ws hs : List Float) → placerFault (placerOf placer spot pw ph ws hs) ≡ 0 → answerOf placer a pw ph ws hs ≡ checkedSetMinWidth (placerOf placer spot pw ph ws hs) width) ⌝ }
+    ensures { λ a. ⌜ ((pw ph ws hs : List Float) → placerFault (placerOf placer spot pw ph ws hs) ≡ 0 → answerOf placer spot a pw ph ws hs ≡ checkedSetMinWidth (placerOf placer spot pw ph ws hs) width) ⌝ }
 {
     settled(
         placer,
@@ -311,7 +305,7 @@ pub fn set_min_width(placer: BarePlacer, spot: Spot, width: f32) -> SpotAnswer
 }
 
 pub fn set_min_height(placer: BarePlacer, spot: Spot, height: f32) -> SpotAnswer
-    ensures { λ a. ⌜ ((pw ph ws hs : List Float) → placerFault (placerOf placer spot pw ph ws hs) ≡ 0 → answerOf placer a pw ph ws hs ≡ checkedSetMinHeight (placerOf placer spot pw ph ws hs) height) ⌝ }
+    ensures { λ a. ⌜ ((pw ph ws hs : List Float) → placerFault (placerOf placer spot pw ph ws hs) ≡ 0 → answerOf placer spot a pw ph ws hs ≡ checkedSetMinHeight (placerOf placer spot pw ph ws hs) height) ⌝ }
 {
     settled(
         placer,
@@ -323,7 +317,7 @@ pub fn set_min_height(placer: BarePlacer, spot: Spot, height: f32) -> SpotAnswer
 
 // In a grid.
 fn row_ended(placer: BarePlacer, spot: Spot, before: u8, heights: &[f32]) -> SpotAnswer
-    ensures { λ a. ⌜ ((pw ph ws : List Float) (sp : Spacing) → placer .«has_grid» ≡ true → placerFault (placerOf placer spot pw ph ws (now (heights .entry))) ≡ 0 → answerOf placer a pw ph ws (now (heights .entry)) ≡ changed (least (placerFault (placerOf placer spot pw ph ws (now (heights .entry))) ∷ before ∷ [])) (placerOf placer spot pw ph ws (now (heights .entry))) (endRow (placerOf placer spot pw ph ws (now (heights .entry))) sp)) ⌝ }
+    ensures { λ a. ⌜ ((pw ph ws : List Float) (sp : Spacing) → placer .«has_grid» ≡ true → placerFault (placerOf placer spot pw ph ws (now (heights .entry))) ≡ 0 → answerOf placer spot a pw ph ws (now (heights .entry)) ≡ changed (least (placerFault (placerOf placer spot pw ph ws (now (heights .entry))) ∷ before ∷ [])) (placerOf placer spot pw ph ws (now (heights .entry))) (endRow (placerOf placer spot pw ph ws (now (heights .entry))) sp)) ⌝ }
 {
     let l = placer.layout;
     let d = l.main_dir;
@@ -337,15 +331,11 @@ fn row_ended(placer: BarePlacer, spot: Spot, before: u8, heights: &[f32]) -> Spo
         region: r,
         grid: row,
     };
-    answer(
-        or_else(before, outside_domain(region_fault(d, r))),
-        spot,
-        new,
-    )
+    answer(or_else(before, outside_domain(region_fault(d, r))), new)
 }
 
 pub fn end_row(placer: BarePlacer, spot: Spot, heights: &[f32], item_spacing: Vec2) -> SpotAnswer
-    ensures { λ a. ⌜ ((pw ph ws : List Float) → placerFault (placerOf placer spot pw ph ws (now (heights .entry))) ≡ 0 → answerOf placer a pw ph ws (now (heights .entry)) ≡ checkedEndRow (placerOf placer spot pw ph ws (now (heights .entry))) «item_spacing») ⌝ }
+    ensures { λ a. ⌜ ((pw ph ws : List Float) → placerFault (placerOf placer spot pw ph ws (now (heights .entry))) ≡ 0 → answerOf placer spot a pw ph ws (now (heights .entry)) ≡ checkedEndRow (placerOf placer spot pw ph ws (now (heights .entry))) «item_spacing») ⌝ }
 {
     let g = spot.grid;
     let row = g.row;

@@ -41,7 +41,8 @@ pub struct Spot {
     pub grid: GridSpot,
 }
 
-pub struct SpotAnswer {
-    pub number: u8,
-    pub spot: Spot,
+// A call in a pass: what it carries on, or the number by which the call is refused.
+pub enum SpotAnswer {
+    Changed(Spot),
+    Refused(u8),
 }

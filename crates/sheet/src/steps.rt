@@ -19,7 +19,6 @@ use records::Step;
 ghost use mathlib.Core.Path.{_≡_};
 ghost use mathlib.Core.List.{List};
 ghost use lib.Ieee.{Float};
-ghost use Rattle.layout.specs.Refusals.{zeroRect};
 ghost use Rattle.placer.specs.declared.BarePlacer.{BarePlacer as Bare};
 ghost use Rattle.placer.specs.Lent.{placerOf, answerOf};
 ghost use Rattle.sheet.specs.Calls.{movedOf, givenNumber, answeredNumber, placement, calledBy, stepMoved, recordMoved, Ready};
@@ -84,29 +83,32 @@ fn place(
     }
 }
 
-fn zero_rect() -> Rect
-    ensures { λ r. ⌜ r ≡ zeroRect ⌝ }
+// A record that is no W.
+fn moved(number: u8, spot: Spot) -> SpotMoved
+    ensures { λ m. ⌜ ((p : Bare) (pw ph ws hs : List Float) → movedOf p m pw ph ws hs ≡ calledBy (record { number = number; placer = placerOf p spot pw ph ws hs })) ⌝ }
 {
-    Rect {
+    let none = Rect {
         left: 0.0,
         top: 0.0,
         right: 0.0,
         bottom: 0.0,
-    }
-}
-
-// A record that is one call.
-fn called(a: SpotAnswer) -> SpotMoved
-    ensures { λ m. ⌜ ((p : Bare) (pw ph ws hs : List Float) → movedOf p m pw ph ws hs ≡ calledBy (answerOf p a pw ph ws hs)) ⌝ }
-{
-    let s = a.spot;
-    let none = zero_rect();
+    };
     SpotMoved {
-        number: a.number,
-        spot: s,
+        number,
+        spot,
         placed: 0,
         frame: none,
         widget: none,
+    }
+}
+
+// A record that is one call, of a pass at `spot`.
+fn called(spot: Spot, a: SpotAnswer) -> SpotMoved
+    ensures { λ m. ⌜ ((p : Bare) (pw ph ws hs : List Float) → movedOf p m pw ph ws hs ≡ calledBy (answerOf p spot a pw ph ws hs)) ⌝ }
+{
+    match a {
+        SpotAnswer::Changed(next) => moved(0, next),
+        SpotAnswer::Refused(number) => moved(number, spot),
     }
 }
 
@@ -135,23 +137,17 @@ fn step_moved(
             spacing,
             Vec2 { x, y },
         ),
-        Step::Space(amount) => called(lent::advance_cursor(placer, spot, amount)),
-        Step::RowHeight(height) => called(lent::set_row_height(placer, spot, height)),
-        Step::MaxWidth(width) => called(lent::set_max_width(placer, spot, width)),
-        Step::MaxHeight(height) => called(lent::set_max_height(placer, spot, height)),
-        Step::MinWidth(width) => called(lent::set_min_width(placer, spot, width)),
-        Step::MinHeight(height) => called(lent::set_min_height(placer, spot, height)),
-        Step::RowEnd => called(lent::end_row(placer, spot, &*heights, spacing)),
+        Step::Space(amount) => called(spot, lent::advance_cursor(placer, spot, amount)),
+        Step::RowHeight(height) => called(spot, lent::set_row_height(placer, spot, height)),
+        Step::MaxWidth(width) => called(spot, lent::set_max_width(placer, spot, width)),
+        Step::MaxHeight(height) => called(spot, lent::set_max_height(placer, spot, height)),
+        Step::MinWidth(width) => called(spot, lent::set_min_width(placer, spot, width)),
+        Step::MinHeight(height) => called(spot, lent::set_min_height(placer, spot, height)),
+        Step::RowEnd => called(spot, lent::end_row(placer, spot, &*heights, spacing)),
     }
 }
 
 // A heading or a grid's options here, or what is no record, is 1; a sheet that was checked has none.
-fn misplaced(spot: Spot) -> SpotMoved
-    ensures { λ m. ⌜ ((p : Bare) (pw ph ws hs : List Float) → movedOf p m pw ph ws hs ≡ calledBy (record { number = 1; placer = placerOf p spot pw ph ws hs })) ⌝ }
-{
-    called(SpotAnswer { number: 1, spot })
-}
-
 pub fn record_moved(
     placer: BarePlacer,
     spot: Spot,
@@ -166,8 +162,8 @@ pub fn record_moved(
     ensures { λ m. ⌜ movedOf placer m (now («prev_widths» .entry)) (now («prev_heights» .entry)) (now (widths .exit)) (now (heights .exit)) ≡ recordMoved (placerOf placer spot (now («prev_widths» .entry)) (now («prev_heights» .entry)) (now (widths .entry)) (now (heights .entry))) spacing r ⌝ }
 {
     match r {
-        Record::Heading(_) => misplaced(spot),
-        Record::Grid(_) => misplaced(spot),
+        Record::Heading(_) => moved(1, spot),
+        Record::Grid(_) => moved(1, spot),
         Record::Step(st) => step_moved(
             placer,
             spot,
@@ -178,6 +174,6 @@ pub fn record_moved(
             spacing,
             st,
         ),
-        Record::Wrong => misplaced(spot),
+        Record::Wrong => moved(1, spot),
     }
 }

@@ -1,16 +1,16 @@
 -- `placer::lent::answer` meets its contract. Assumes nothing.
-use borrow.Author.Tests.{eq-eqb, ne-eqb}
+use borrow.Author.Tests.{ne-eqb}
 use Rattle.placer.specs.Refusals.{placerAnswer}
 use Rattle.placer.proofs.lent.answer.Statement.{statement}
 use Rattle.placer.proofs.lent.answer.Tie as tie
 
 returns : tie.Need-returns
 unfolding placerAnswer
-returns c p pw ph ws hs = rw (eq-eqb _ _ (c .if1 .taken))
+returns c p s pw ph ws hs = rw (c .if1 .taken)
 
 returns-2 : tie.Need-returns-2
 unfolding placerAnswer
-returns-2 c p pw ph ws hs = rw (ne-eqb _ _ (c .if1 .left))
+returns-2 c p s pw ph ws hs = rw (ne-eqb _ _ (c .if1 .left))
 
 pub answer-spec : {M : Type 1} → statement M
 answer-spec = tie.close (tie.spec returns returns-2)

@@ -14,7 +14,7 @@ returns c = rw (c .before .before .before .before .before .before .before .befor
 
 returns-2 : tie.Need-returns-2
 unfolding stepMoved
-returns-2 c = let a = c .before .before .before .before .before .before .before .before .before .args in rw (c .before .before .before .st2 .given .1) (c .called .ensures _ _ _ _ _ ∙ ap calledBy (c .before .advance-cursor .ensures _ _ _ _ (c .before .before .before .before .before .before .before .before .before .pre .none)))
+returns-2 c = rw (c .before .before .before .st2 .given .1) (c .called .ensures _ _ _ _ _ ∙ ap calledBy (c .before .advance-cursor .ensures _ _ _ _ (c .before .before .before .before .before .before .before .before .before .pre .none)))
 
 returns-3 : tie.Need-returns-3
 unfolding stepMoved

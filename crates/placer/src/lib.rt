@@ -7,6 +7,7 @@ use grid::GridSpot;
 use layout::Layout;
 use layout::Region;
 
+pub mod calls;
 pub mod faults;
 mod inspectors;
 pub mod lent;

@@ -12,6 +12,7 @@ use emath::faults::size_fault;
 use placer::BarePlacer;
 use placer::Spot;
 use placer::SpotAnswer;
+use placer::calls;
 use placer::faults::cell_fault;
 use placer::lent;
 use records::Record;
@@ -137,13 +138,13 @@ fn step_moved(
             spacing,
             Vec2 { x, y },
         ),
-        Step::Space(amount) => called(spot, lent::advance_cursor(placer, spot, amount)),
-        Step::RowHeight(height) => called(spot, lent::set_row_height(placer, spot, height)),
-        Step::MaxWidth(width) => called(spot, lent::set_max_width(placer, spot, width)),
-        Step::MaxHeight(height) => called(spot, lent::set_max_height(placer, spot, height)),
-        Step::MinWidth(width) => called(spot, lent::set_min_width(placer, spot, width)),
-        Step::MinHeight(height) => called(spot, lent::set_min_height(placer, spot, height)),
-        Step::RowEnd => called(spot, lent::end_row(placer, spot, &*heights, spacing)),
+        Step::Space(amount) => called(spot, calls::advance_cursor(placer, spot, amount)),
+        Step::RowHeight(height) => called(spot, calls::set_row_height(placer, spot, height)),
+        Step::MaxWidth(width) => called(spot, calls::set_max_width(placer, spot, width)),
+        Step::MaxHeight(height) => called(spot, calls::set_max_height(placer, spot, height)),
+        Step::MinWidth(width) => called(spot, calls::set_min_width(placer, spot, width)),
+        Step::MinHeight(height) => called(spot, calls::set_min_height(placer, spot, height)),
+        Step::RowEnd => called(spot, calls::end_row(placer, spot, &*heights, spacing)),
     }
 }
 

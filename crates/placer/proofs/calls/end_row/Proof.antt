@@ -1,12 +1,12 @@
--- `placer::lent::end_row` meets its contract. Assumes nothing.
+-- `placer::calls::end_row` meets its contract. Assumes nothing.
 use Rattle.emath.specs.Refusals.{least}
 use Rattle.placer.specs.Lent.{placerOf}
 use Rattle.placer.proofs.Parts.{row-ended-plain}
 use Rattle.placer.specs.Refusals.{endRowFault}
 use Rattle.placer.specs.Operations.{checkedEndRow}
 use borrow.Author.Needs.{needs}
-use Rattle.placer.proofs.lent.end_row.Statement.{statement}
-use Rattle.placer.proofs.lent.end_row.Tie as tie
+use Rattle.placer.proofs.calls.end_row.Statement.{statement}
+use Rattle.placer.proofs.calls.end_row.Tie as tie
 
 returns : tie.Need-returns
 unfolding checkedEndRow endRowFault least

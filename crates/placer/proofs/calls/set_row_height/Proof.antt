@@ -1,9 +1,9 @@
--- `placer::lent::set_row_height` meets its contract. Assumes nothing.
+-- `placer::calls::set_row_height` meets its contract. Assumes nothing.
 use Rattle.placer.specs.Rules.{setRowHeight}
 use Rattle.placer.specs.Operations.{checkedSetRowHeight}
 use borrow.Author.Needs.{needs}
-use Rattle.placer.proofs.lent.set_row_height.Statement.{statement}
-use Rattle.placer.proofs.lent.set_row_height.Tie as tie
+use Rattle.placer.proofs.calls.set_row_height.Statement.{statement}
+use Rattle.placer.proofs.calls.set_row_height.Tie as tie
 
 returns : tie.Need-returns
 unfolding checkedSetRowHeight setRowHeight

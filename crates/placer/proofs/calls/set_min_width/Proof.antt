@@ -1,10 +1,10 @@
--- `placer::lent::set_min_width` meets its contract. Assumes nothing.
+-- `placer::calls::set_min_width` meets its contract. Assumes nothing.
 use Rattle.placer.specs.Lent.{placerOf}
 use Rattle.placer.specs.Operations.{checkedSetMinWidth}
 use Rattle.placer.proofs.Kept.{min-width-region}
 use borrow.Author.Needs.{needs}
-use Rattle.placer.proofs.lent.set_min_width.Statement.{statement}
-use Rattle.placer.proofs.lent.set_min_width.Tie as tie
+use Rattle.placer.proofs.calls.set_min_width.Statement.{statement}
+use Rattle.placer.proofs.calls.set_min_width.Tie as tie
 
 returns : tie.Need-returns
 unfolding checkedSetMinWidth

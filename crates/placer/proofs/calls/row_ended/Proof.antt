@@ -1,9 +1,9 @@
--- `placer::lent::row_ended` meets its contract. Assumes nothing.
+-- `placer::calls::row_ended` meets its contract. Assumes nothing.
 use Rattle.placer.specs.Lent.{placerOf}
 use Rattle.placer.proofs.Unfaulted.{row-ended-is}
 use borrow.Author.Needs.{needs}
-use Rattle.placer.proofs.lent.row_ended.Statement.{statement}
-use Rattle.placer.proofs.lent.row_ended.Tie as tie
+use Rattle.placer.proofs.calls.row_ended.Statement.{statement}
+use Rattle.placer.proofs.calls.row_ended.Tie as tie
 
 returns : tie.Need-returns
 returns c pw ph ws sp on e = let a = c .before .before .before .before .before .before .before .before .before .before .args in let p = placerOf (a .placer) (a .spot) pw ph ws (a .heights .now) in rw (c .answer .ensures (a .placer) (a .spot) pw ph ws (a .heights .now), c .before .or-else .ensures, c .before .before .outside-domain .ensures, c .before .before .before .region-fault .ensures, c .before .before .before .before .end-row .ensures (a .placer .grid) pw ph ws (a .heights .now) (a .spot .region .cursor), c .before .before .before .before .before .with-cursor .ensures, c .before .before .before .before .before .before .ended-cursor .ensures pw ph ws) (row-ended-is p e on (a .before) sp)

@@ -1,10 +1,10 @@
--- `placer::lent::set_max_height` meets its contract. Assumes nothing.
+-- `placer::calls::set_max_height` meets its contract. Assumes nothing.
 use Rattle.placer.specs.Lent.{placerOf}
 use Rattle.placer.specs.Rules.{setMaxHeight}
 use Rattle.placer.specs.Operations.{checkedSetMaxHeight}
 use borrow.Author.Needs.{needs}
-use Rattle.placer.proofs.lent.set_max_height.Statement.{statement}
-use Rattle.placer.proofs.lent.set_max_height.Tie as tie
+use Rattle.placer.proofs.calls.set_max_height.Statement.{statement}
+use Rattle.placer.proofs.calls.set_max_height.Tie as tie
 
 returns : tie.Need-returns
 unfolding checkedSetMaxHeight setMaxHeight

@@ -1,10 +1,10 @@
--- `placer::lent::advance_cursor` meets its contract. Assumes nothing.
+-- `placer::calls::advance_cursor` meets its contract. Assumes nothing.
 use Rattle.emath.specs.Refusals.{least}
 use Rattle.placer.specs.Rules.{advanceCursor}
 use Rattle.placer.specs.Operations.{checkedAdvanceCursor}
 use borrow.Author.Needs.{needs}
-use Rattle.placer.proofs.lent.advance_cursor.Statement.{statement}
-use Rattle.placer.proofs.lent.advance_cursor.Tie as tie
+use Rattle.placer.proofs.calls.advance_cursor.Statement.{statement}
+use Rattle.placer.proofs.calls.advance_cursor.Tie as tie
 
 returns : tie.Need-returns
 unfolding checkedAdvanceCursor advanceCursor least

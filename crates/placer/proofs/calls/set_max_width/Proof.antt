@@ -1,10 +1,10 @@
--- `placer::lent::set_max_width` meets its contract. Assumes nothing.
+-- `placer::calls::set_max_width` meets its contract. Assumes nothing.
 use Rattle.placer.specs.Lent.{placerOf}
 use Rattle.placer.specs.Rules.{setMaxWidth}
 use Rattle.placer.specs.Operations.{checkedSetMaxWidth}
 use borrow.Author.Needs.{needs}
-use Rattle.placer.proofs.lent.set_max_width.Statement.{statement}
-use Rattle.placer.proofs.lent.set_max_width.Tie as tie
+use Rattle.placer.proofs.calls.set_max_width.Statement.{statement}
+use Rattle.placer.proofs.calls.set_max_width.Tie as tie
 
 returns : tie.Need-returns
 unfolding checkedSetMaxWidth setMaxWidth

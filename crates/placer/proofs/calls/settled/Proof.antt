@@ -1,10 +1,10 @@
--- `placer::lent::settled` meets its contract. Assumes nothing.
+-- `placer::calls::settled` meets its contract. Assumes nothing.
 use Rattle.placer.specs.Rules.{withRegion}
 use Rattle.placer.specs.Lent.{placerOf}
 use Rattle.placer.proofs.Unfaulted.{region-fault, changed-is}
 use borrow.Author.Needs.{needs}
-use Rattle.placer.proofs.lent.settled.Statement.{statement}
-use Rattle.placer.proofs.lent.settled.Tie as tie
+use Rattle.placer.proofs.calls.settled.Statement.{statement}
+use Rattle.placer.proofs.calls.settled.Tie as tie
 
 returns : tie.Need-returns
 returns c pw ph ws hs e = let a = c .before .before .before .before .before .args in let p = placerOf (a .placer) (a .spot) pw ph ws hs in rw (changed-is p e (a .before) _ (withRegion p (a .region)) (region-fault p e (a .region)), ← c .before .before .before .region-fault .ensures, ← c .before .before .outside-domain .ensures, ← c .before .or-else .ensures) (c .answer .ensures (a .placer) (a .spot) pw ph ws hs)

@@ -1,8 +1,8 @@
--- `placer::lent::answer` meets its contract. Assumes nothing.
+-- `placer::calls::answer` meets its contract. Assumes nothing.
 use borrow.Author.Tests.{ne-eqb}
 use Rattle.placer.specs.Refusals.{placerAnswer}
-use Rattle.placer.proofs.lent.answer.Statement.{statement}
-use Rattle.placer.proofs.lent.answer.Tie as tie
+use Rattle.placer.proofs.calls.answer.Statement.{statement}
+use Rattle.placer.proofs.calls.answer.Tie as tie
 
 returns : tie.Need-returns
 unfolding placerAnswer

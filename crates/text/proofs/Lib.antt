@@ -3,6 +3,7 @@ pub mod Table
 pub mod Turns
 pub mod Outcomes
 pub mod RoundTrip
+pub mod ScanSound
 pub mod Scanned
 pub mod ScanTurns
 pub mod Signs

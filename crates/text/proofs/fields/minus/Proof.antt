@@ -3,7 +3,7 @@ use mathlib.Core.Path.{ap, sym, _∙_}
 use Rattle.text.specs.Scanning.{minus}
 use Rattle.text.specs.declared.Field.the-variants.{Number}
 use Rattle.text.proofs.Signs.{opposite-fits, opposite-value}
-use Rattle.text.proofs.Scanned.{fits-is}
+use Rattle.text.proofs.ScanSound.{fits-is}
 use borrow.Author.Needs.{needs}
 use Rattle.text.proofs.fields.minus.Statement.{statement}
 use Rattle.text.proofs.fields.minus.Tie as tie

@@ -2,7 +2,7 @@ use mathlib.Core.Path.{ap, sym, _∙_}
 use Rattle.text.specs.Scanning.{plus}
 use Rattle.text.specs.declared.Field.the-variants.{Number}
 use Rattle.text.proofs.Signs.{small-value}
-use Rattle.text.proofs.Scanned.{fits-is}
+use Rattle.text.proofs.ScanSound.{fits-is}
 use borrow.Author.Needs.{needs}
 use Rattle.text.proofs.fields.plus.Statement.{statement}
 use Rattle.text.proofs.fields.plus.Tie as tie

@@ -1,0 +1,13 @@
+-- The two calls one after the other: what each answers, the second of the first's region.
+use lib.Ieee.{Float}
+use Rattle.emath.specs.declared.Vec2.{Vec2}
+use Rattle.layout.specs.declared.Layout.{Layout}
+use Rattle.layout.specs.declared.Region.{Region}
+use Rattle.layout.specs.Operations.{checkedAdvanceCursor, checkedEndRow}
+use Rattle.lent_region.specs.declared.Edited.{Edited}
+
+unfoldable pub edited : Layout → Region → Float → Vec2 → Edited
+edited l g amount spacing = record {
+  advanced = checkedAdvanceCursor l g amount;
+  ended = checkedEndRow l (checkedAdvanceCursor l g amount .region) spacing;
+}

@@ -4,6 +4,7 @@ mod corners;
 mod faulty;
 pub mod fields;
 mod frames;
+mod lent;
 mod regions;
 pub mod states;
 
@@ -21,6 +22,7 @@ pub fn compare(t: &mut Tally) {
     fields::compare(t);
     regions::compare(t, &corners);
     frames::compare(t, &corners);
+    lent::compare(t);
     corners.show(t);
 }
 

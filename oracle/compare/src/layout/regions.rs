@@ -84,7 +84,7 @@ fn of_new(dir: u8, new: &State) -> u8 {
 }
 
 /// A new state that is outside the domain gets 9.
-fn moved(dir: u8, number: u8, given: &State, new: State) -> Expected<State> {
+pub fn moved(dir: u8, number: u8, given: &State, new: State) -> Expected<State> {
     let [min_rect, max_rect, cursor] = of_region(dir, given);
     let arguments = [min_rect, max_rect, cursor, number];
     Expected::changed(&arguments, of_new(dir, &new), new, *given)

@@ -145,7 +145,10 @@ fn first_region(d: &mut Draw<'_>) -> State {
 pub fn compare(t: &mut Tally) {
     const NAME: &str = "lent calls, sequences";
     let (cases, differences) = (t.cases, t.differences);
-    let calls = [Call::new("advance_cursor, lent"), Call::new("end_row, lent")];
+    let calls = [
+        Call::new("advance_cursor, lent"),
+        Call::new("end_row, lent"),
+    ];
     let mut values = Values::new(Rng::new(t.seed, NAME));
     let sequences = SEQUENCES * t.times;
     let mut after_refusal = 0;

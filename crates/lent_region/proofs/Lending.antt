@@ -10,7 +10,7 @@ use lib.Dec.{T as Holds}
 use mir.Syntax.{Name, Ty, Fn, named, mut, w8, tyInt, tyRef, deref, field, place, copy, rvOpd, seq, assign, return, call, valueLocal, local}
 use mir.Val.{Val, WT, hasTy, vint, vptr}
 use base.Logic.{SProp, ent, sep, ex, id⊢}
-use base.Fml.{GName, Lft, Share, ftrue, fat, flft, fobs, fbor}
+use base.Fml.{GName, Lft, Share, ftrue, fat, flft}
 use prog.Wp.{Heap, Calls, Loops, WpFn}
 use ghost.Atoms.{Atoms, sem}
 use contract.Monad.{fact}

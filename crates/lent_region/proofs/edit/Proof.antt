@@ -10,7 +10,7 @@ use lib.Ieee.{Float, binary32}
 use mir.Syntax.{named, tyInt, w8}
 use mir.Val.{Val, WT, hasTy, vint, vfloat, vptr}
 use base.Logic.{SProp, ent, sep, ex, emp, via, fst∗, id⊢}
-use base.Fml.{GName, ftrue, fat, flft, fres}
+use base.Fml.{GName, ftrue, fat, flft}
 use prog.Memory.{Memory}
 use prog.Routine.{Routine}
 use prog.Wp.{Heap, Calls, Loops, WpFn, Tables}

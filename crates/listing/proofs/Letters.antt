@@ -14,10 +14,8 @@ use Rattle.records.specs.declared.Step.{Step}
 use Rattle.records.specs.declared.Step.the-variants.{Widget, Space, RowHeight, MaxWidth, MaxHeight, MinWidth, MinHeight, RowEnd}
 use Rattle.records.specs.declared.Record.{Record}
 use Rattle.records.specs.declared.Record.the-variants.{Wrong}
+use Rattle.sheet.proofs.WalkedPasses.{no-such}
 use Rattle.listing.specs.Putting.{mark}
-
-no-such : {A : Type 0} → false ≡ true → A
-no-such e = let o : _≡_ {A = ℕ} 0 1 = cc in absurd (omega arith)
 
 -- a record with w W, or none
 data Holds (w : ℕ) : Record → Type 0 where

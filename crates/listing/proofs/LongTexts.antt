@@ -1,5 +1,5 @@
 -- A text longer than any sheet has the list of its first 50,177 bytes: so long a buffer answers every input rightly. Assumes nothing.
-use Prim.Native.Nat.{ℕ, _≤_}
+use Prim.Native.Nat.{ℕ}
 use mathlib.Core.Path.{_≡_, refl, ap, _∙_}
 use mathlib.Core.Bool.{Bool, true, false}
 use mathlib.Core.List.{List}

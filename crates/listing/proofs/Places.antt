@@ -1,6 +1,6 @@
 -- A text without a fault: its records are placed, each W has a control, and the second record says whether there is a grid. And a refusal's
 -- record is never beyond the text. Assumes nothing.
-use Prim.Native.Nat.{ℕ, zero, suc, _+_, _*_, _≤_, _<_}
+use Prim.Native.Nat.{ℕ, zero, suc, _+_, _*_, _≤_}
 use mathlib.Core.Path.{_≡_, refl, ap, sym, _∙_}
 use mathlib.Core.Bool.{Bool, true, false, cond}
 use mathlib.Core.List.{List, [], _∷_}
@@ -25,26 +25,8 @@ use Rattle.sheet.specs.Pass.{Sheet, Ran, Stepped, called, followed, stepped, ru
 use Rattle.sheet.specs.Texts.{stepsOf, noHeading, afterHeading, sheetOf, sheetIn}
 use Rattle.sheet.specs.Slices.{judged, laid}
 use Rattle.sheet.specs.CallClause.{controls}
+use Rattle.sheet.proofs.WalkedPasses.{no-such, NoFault}
 use Rattle.listing.specs.Putting.{isGrid, hasGrid}
-
-no-such : {A : Type 0} → false ≡ true → A
-no-such e = let o : _≡_ {A = ℕ} 0 1 = cc in absurd (omega arith)
-
--- ---- what 1 to 3 leave
-pub record Well (text : List ℕ) : Type 0 where
-  pub some : 0 < length text
-  pub placed : misplaced 1 (records text) ≡ 0
-
-pub accepted-well : (text : List ℕ) (room r w : ℕ) → checked text room ≡ Accepted r w → Well text
-unfolding checked
-accepted-well [] room r w h = let o : _≡_ {A = ℕ} 0 1 = cc in absurd (omega arith)
-accepted-well (b ∷ s) room r w h = go (ltb 0 (misplaced 1 (records (b ∷ s)))) refl h
-  where
-    go : (c : Bool) → ltb 0 (misplaced 1 (records (b ∷ s))) ≡ c
-        → pick c (Refused 1 (misplaced 1 (records (b ∷ s)))) (pick (isEmpty (after 512 (b ∷ s))) (sized (length (records (b ∷ s))) (widgets (records (b ∷ s))) room) (Refused 2 513)) ≡ Accepted r w
-        → Well (b ∷ s)
-    go true e h = let o : _≡_ {A = ℕ} 0 1 = cc in absurd (omega arith)
-    go false e h = let l = ltb-false 0 (misplaced 1 (records (b ∷ s))) e in record { some = omega arith; placed = omega (arith, l) }
 
 -- ---- each W is a control
 steps-all : (rs : List Record) → widgets rs ≡ controls (stepsOf rs)
@@ -79,8 +61,8 @@ sheet-all (record-of.Step st ∷ rs) h = no-such (first-placed (record-of.Step s
 sheet-all (record-of.Grid g ∷ rs) h = no-such (first-placed (record-of.Grid g) rs h)
 sheet-all (record-of.Wrong ∷ rs) h = no-such (first-placed record-of.Wrong rs h)
 
-pub all-controls : (text : List ℕ) → Well text → widgets (records text) ≡ controls (sheetIn text .steps)
-all-controls text w = sheet-all (records text) (w .placed)
+pub all-controls : (text : List ℕ) → NoFault text → widgets (records text) ≡ controls (sheetIn text .steps)
+all-controls text w = sheet-all (records text) (w .well)
 
 -- ---- the second record is a G exactly if the sheet has a grid
 after-grid : (h : Heading) (r : Record) (rs : List Record) → isGrid r ≡ afterHeading h (r ∷ rs) .«has_grid»
@@ -115,10 +97,10 @@ first-is text (record-of.Step st) rs e w = no-such (first-placed (record-of.Step
 first-is text (record-of.Grid g) rs e w = no-such (first-placed (record-of.Grid g) rs w)
 first-is text record-of.Wrong rs e w = no-such (first-placed record-of.Wrong rs w)
 
-pub grid-there : (text : List ℕ) → Well text → hasGrid text ≡ sheetIn text .«has_grid»
+pub grid-there : (text : List ℕ) → NoFault text → hasGrid text ≡ sheetIn text .«has_grid»
 grid-there text w =
     let s = records-step 512 text 0 (omega arith) (w .some) in
-    first-is text (recordAt text 0) (recordsFrom 511 (drop (nextAt text 0) text)) refl (ap (λ (rs : List Record). misplaced 1 rs) (sym s) ∙ w .placed) ∙ ap (λ (rs : List Record). sheetOf rs .«has_grid») (sym s)
+    first-is text (recordAt text 0) (recordsFrom 511 (drop (nextAt text 0) text)) refl (ap (λ (rs : List Record). misplaced 1 rs) (sym s) ∙ w .well) ∙ ap (λ (rs : List Record). sheetOf rs .«has_grid») (sym s)
 
 -- ---- a refusal's record
 misplaced-few : (k : ℕ) (rs : List Record) → misplaced k rs ≤ k + length rs

@@ -28,6 +28,7 @@ use Rattle.sheet.proofs.Slices as sheet-slices
 use Rattle.sheet.proofs.Slices.{room-there}
 use Rattle.sheet.proofs.TextTicks.{text-whole}
 use Rattle.sheet.proofs.WholeEdges.{whole-pass}
+use Rattle.sheet.proofs.WalkedPasses.{no-such, no-fault}
 use Rattle.sheet.proofs.CallClause.{Shown, shown, no-number, some-number, pass-all}
 use Rattle.listing.specs.Lists.{printed, widgetLines, entryLines, memoryLines, acceptedLines, refusalLine, outcomeLines, answered, listOf, listIn}
 use Rattle.listing.specs.Putting.{Put, putAccepted, WholeMemory, isAccepted, hasGrid, printable, Printable, putPassed, numberOf}
@@ -35,7 +36,7 @@ use Rattle.listing.proofs.Puts.{Within}
 use Rattle.listing.proofs.Written as written
 use Rattle.listing.proofs.Written.{after}
 use Rattle.listing.proofs.Memories.{empty-whole, first-whole, second-whole, plain-memory}
-use Rattle.listing.proofs.Places.{accepted-well, all-controls, grid-there, laid-few}
+use Rattle.listing.proofs.Places.{all-controls, grid-there, laid-few}
 
 -- the lines of one pass's outcome
 abbrev pub told : Checked → List ℕ → Outcome → List ℕ
@@ -49,9 +50,6 @@ list-told text = go (checked text 4096)
     go : (c : Checked) → told c text (printed (sheetIn text)) ≡ answered c text
     go (checked-of.Refused n at) = refl
     go (checked-of.Accepted r w) = refl
-
-no-such : {A : Type 0} → false ≡ true → A
-no-such e = let o : _≡_ {A = ℕ} 0 1 = cc in absurd (omega arith)
 
 no-entries : memoryLines emptyMemory ≡ []
 unfolding memoryLines entryLines
@@ -106,7 +104,7 @@ module _ (text : List ℕ) (known : Bool) (m : Memory) (sizing : Bool) (out : Li
       whole-list : (r w : ℕ) → checked text 4096 ≡ checked-of.Accepted r w → Shown text known m sizing p exit
           → putAccepted text exit (p .plate) (p .memory) P ≡ after P (widgetLines 1 (records text) (o .cells) ++ (line 80 (edges (inTicks 5 (o .plate))) ++ memoryLines (o .memory)))
       whole-list r w e s =
-          let v = accepted-well text 4096 r w e in
+          let v = no-fault text 4096 r w e in
           let a = all-controls text v in
           let b = pass-all 5 (sheetIn text) known m sizing (s .number) in
           let d = sheet-slices.pass-few 5 (sheetIn text) known m sizing in
@@ -114,7 +112,7 @@ module _ (text : List ℕ) (known : Bool) (m : Memory) (sizing : Bool) (out : Li
           let i = whole-pass 5 (omega arith) (sheetIn text) (text-whole text) known m sizing (s .number) in
           rw (s .plate, s .memory)
           (written.put-accepted text exit (o .plate) (o .memory) P (o .cells)
-          (record { well = v .placed; from = omega arith; few = omega arith; others = s .others; there = s .slice; whole = i .cells; all = omega (arith, a, b, d); room = omega (arith, a, d, t, start, room) })
+          (record { well = v .well; from = omega arith; few = omega arith; others = s .others; there = s .slice; whole = i .cells; all = omega (arith, a, b, d); room = omega (arith, a, d, t, start, room) })
           (i .plate) (f (s .number)) (omega (arith, start, room)) (omega (arith, a, d, t)))
 
       -- 1 to 3, or the pass's own outcome
@@ -187,7 +185,7 @@ module _ (text : List ℕ) (out between : List ℤ) (p : Passed) (full : length 
 
   -- whether the code goes on is whether the rule does
   goes-on : (r w : ℕ) → checked text 4096 ≡ checked-of.Accepted r w → isAccepted (p .laid) && hasGrid text ≡ eqb (passes 5 (sheetIn text) 0 .number) 0 && sheetIn text .«has_grid»
-  goes-on r w e = rw (laid-first r w e, accepted-is (passes 5 (sheetIn text) 0 .number) (passes 5 (sheetIn text) 0 .at), grid-there text (accepted-well text 4096 r w e))
+  goes-on r w e = rw (laid-first r w e, accepted-is (passes 5 (sheetIn text) 0 .number) (passes 5 (sheetIn text) 0 .at), grid-there text (no-fault text 4096 r w e))
 
   which : (b : Bool) → isAccepted (p .laid) && hasGrid text ≡ b → (k : Checked) → checked text 4096 ≡ k
       → told k text (cond b (passes 5 (sheetIn text) 1) (passes 5 (sheetIn text) 0)) ≡ told k text (printed (sheetIn text))
@@ -228,7 +226,7 @@ module _ (text : List ℕ) (out between : List ℤ) (p : Passed) (full : length 
 
       go : (k : Checked) → checked text 4096 ≡ k → Again
       go (checked-of.Refused n at) e = absurd (omega (arith, no-number n at (sym (laid-by (checked-of.Refused n at) e) ∙ l), some-number text 4096 n at e))
-      go (checked-of.Accepted r w) e = record { grid = sym (grid-there text (accepted-well text 4096 r w e)) ∙ accepted-laid (p .laid) (hasGrid text) h .1; number = s .number; memory = s .memory }
+      go (checked-of.Accepted r w) e = record { grid = sym (grid-there text (no-fault text 4096 r w e)) ∙ accepted-laid (p .laid) (hasGrid text) h .1; number = s .number; memory = s .memory }
 
   module _ (exit : List ℤ) (q : Passed) (kept : length between ≡ 4096) (d : Called text true (p .memory) false between q exit) (h : isAccepted (p .laid) && hasGrid text ≡ true) where
     with-first : Called text true (passes 5 (sheetIn text) 0 .memory) false between q exit

@@ -23,12 +23,10 @@ use Rattle.sheet.specs.Slices.{edges}
 use Rattle.sheet.specs.declared.Laid.{Laid}
 use Rattle.sheet.specs.declared.Laid.the-variants.{Accepted, Refused}
 use Rattle.sheet.specs.declared.Passed.{Passed}
+use Rattle.sheet.proofs.WalkedPasses.{no-such}
 use Rattle.listing.specs.Putting.{Put, bytes, putLine, mark, placesOf, putWidget, putWidgets, putEntries, putMemory, putAccepted, putPassed, Whole, none, more}
 
 -- ---- put_line
-no-such : {A : Type 0} → false ≡ true → A
-no-such e = let o : _≡_ {A = ℕ} 0 1 = cc in absurd (omega arith)
-
 module _ (out : List ℕ) (at letter : ℕ) (zs : List ℤ) (o : List ℕ) where
   pub line-fits : (true, o) ≡ lineAt out at letter zs → at + bytes zs ≤ length out
   unfolding lineAt

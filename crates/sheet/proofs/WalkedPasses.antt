@@ -87,7 +87,7 @@ placed-well k r rs first h = go (placed k r) refl
     go true e = record { here = e; later = rw e at h }
     go false e = let g : k ≡ 0 = (rw e at h) in absurd (omega (arith, g))
 
-no-such : {A : Type 0} → false ≡ true → A
+pub no-such : {A : Type 0} → false ≡ true → A
 no-such e = let o : _≡_ {A = ℕ} 0 1 = cc in absurd (omega arith)
 
 only-steps : (k : ℕ) (rs : List Record) → 2 < k → misplaced k rs ≡ 0 → OnlySteps rs
@@ -183,11 +183,11 @@ module _ (text : List ℕ) (known : Bool) (m : Memory) (sizing : Bool) (out : Li
       from-record (recordAt text 0) (ap (λ (rs : List Record). misplaced 1 rs) (sym s) ∙ w) ∙ sym (ap (λ (rs : List Record). answerOf out (pass 5 (sheetOf rs) known m sizing)) s)
 
 -- ---- what 1 to 3 leave
-record NoFault (text : List ℕ) : Type 0 where
+pub record NoFault (text : List ℕ) : Type 0 where
   pub some : 0 < length text
   pub well : misplaced 1 (records text) ≡ 0
 
-no-fault : (text : List ℕ) (room r w : ℕ) → checked text room ≡ Accepted r w → NoFault text
+pub no-fault : (text : List ℕ) (room r w : ℕ) → checked text room ≡ Accepted r w → NoFault text
 unfolding checked
 no-fault [] room r w h = let o : _≡_ {A = ℕ} 0 1 = cc in absurd (omega arith)
 no-fault (b ∷ s) room r w h = go (ltb 0 (misplaced 1 (records (b ∷ s)))) refl h

@@ -6,4 +6,5 @@ pub mod Written
 pub mod Memories
 pub mod Places
 pub mod Printed
+pub mod Settled
 pub mod LongTexts

@@ -65,7 +65,7 @@ said-accepted : (n at : ℕ) → n ≡ 0 → laidOf n at ≡ Accepted
 unfolding laidOf
 said-accepted n at e = rw (eq-eqb n 0 e)
 
-accepted-is : (n at : ℕ) → isAccepted (laidOf n at) ≡ eqb n 0
+pub accepted-is : (n at : ℕ) → isAccepted (laidOf n at) ≡ eqb n 0
 unfolding laidOf isAccepted
 accepted-is n at = go (eqb n 0)
   where

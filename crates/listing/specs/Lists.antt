@@ -1,13 +1,13 @@
 -- Document 01, "The sheet": the list that `platelist` prints of a text.
 use Prim.Native.Nat.{ℕ, _+_}
-use mathlib.Core.Bool.{Bool, cond, _&&_}
+use mathlib.Core.Bool.{Bool, true, false, cond, _&&_}
 use mathlib.Core.List.{List, [], _∷_, _++_}
 use lib.Dec.{eqb}
-use lib.IntN.{pos}
+use lib.IntN.{ℤ, pos}
 use lib.ListN.{length}
 use lib.Seq.{sets}
 use lib.Ieee.{Float}
-use Rattle.grid.specs.Memories.{widths, heights}
+use Rattle.grid.specs.Memories.{emptyMemory, widths, heights}
 use Rattle.grid.specs.declared.Memory.{Memory}
 use Rattle.records.specs.Sheets.{records, widget, checked}
 use Rattle.records.specs.declared.Record.{Record}
@@ -16,13 +16,21 @@ use Rattle.records.specs.declared.Checked.the-variants.{Accepted, Refused}
 use Rattle.text.specs.Lines.{line}
 use Rattle.sheet.specs.Pass.{Sheet, Cell, Outcome, passes}
 use Rattle.sheet.specs.Sheets.{ticks, inTicks}
-use Rattle.sheet.specs.Slices.{edges, eight}
+use Rattle.sheet.specs.Slices.{edges, eight, LaidOut, laid}
 use Rattle.sheet.specs.Texts.{sheetIn}
 
 -- "The program runs a sheet with G twice …, the first pass without memory, the second using the first's memory and not sizing; the second is
 -- printed. Such a sheet is accepted if both passes are."
 unfoldable pub printed : Sheet → Outcome
 printed s = cond (eqb (passes 5 s 0 .number) 0 && s .«has_grid») (passes 5 s 1) (passes 5 s 0)
+
+-- the same over a text and one lent slice: what the last pass gives, and what the slice then holds
+unfoldable pub settledFrom : List ℕ → LaidOut → LaidOut
+settledFrom text first =
+    cond (eqb (first .outcome .number) 0 && sheetIn text .«has_grid») (laid text true (first .outcome .memory) false (first .slice)) first
+
+unfoldable pub settled : List ℕ → List ℤ → LaidOut
+settled text out = settledFrom text (laid text false emptyMemory true out)
 
 -- "W record number and eight edges": of the W among these records, the first of which is record n
 unfoldable pub widgetLines : ℕ → List Record → List Cell → List ℕ

@@ -17,7 +17,8 @@ use sheet::passing::pass;
 ghost use mathlib.Core.Path.{_≡_};
 ghost use Prim.Native.Nat.{_≤_, _<_};
 ghost use Rattle.layout.specs.Steps.{WholeRect};
-ghost use Rattle.listing.specs.Lists.{listIn};
+ghost use Rattle.sheet.specs.Slices.{passedOf};
+ghost use Rattle.listing.specs.Lists.{settled, listIn};
 ghost use Rattle.listing.specs.Putting.{isGrid, hasGrid, isAccepted, putAccepted, putPassed, WholeMemory, Printable, numberOf};
 
 fn is_grid(r: Record) -> bool
@@ -72,18 +73,25 @@ fn put_passed(out: &mut [u8], text: &[u8], cells: &[i32], p: Passed) -> usize
     }
 }
 
+// One pass over the slice, or two with a grid, the second with the first's memory: what the last one gives.
+pub fn settle(text: &[u8], cells: &mut [i32]) -> Passed
+    ensures { λ p. ⌜ (p ≡ passedOf (settled (now (text .entry)) (now (cells .entry)) .outcome)) × (now (cells .exit) ≡ settled (now (text .entry)) (now (cells .entry)) .slice) ⌝ }
+{
+    let none = empty_memory();
+    let first = pass(text, false, none, true, cells);
+    let laid = first.laid;
+    if is_accepted(laid) & has_grid(text) {
+        let memory = first.memory;
+        return pass(text, true, memory, false, cells);
+    }
+    first
+}
+
 // Writes the list from the slice's start, and answers its length. The rest of the slice stays as it was.
 pub fn print(text: &[u8], out: &mut [u8; MAX_LIST]) -> usize
     ensures { λ n. ⌜ ((n, now (out .exit)) ≡ listIn (now (out .entry)) (now (text .entry))) × (n ≤ 40802) ⌝ }
 {
     let mut cells: [i32; PLACES] = [0; PLACES];
-    let none = empty_memory();
-    let first = pass(text, false, none, true, &mut cells);
-    let laid = first.laid;
-    if is_accepted(laid) & has_grid(text) {
-        let memory = first.memory;
-        let second = pass(text, true, memory, false, &mut cells);
-        return put_passed(out, text, &cells, second);
-    }
-    put_passed(out, text, &cells, first)
+    let p = settle(text, &mut cells);
+    put_passed(out, text, &cells, p)
 }

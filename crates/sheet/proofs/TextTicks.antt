@@ -140,7 +140,7 @@ steps-whole (more wrong t) = steps-whole t
 zero-size : WholeSize 5 zeroVec
 zero-size = record { x = zero-edge; y = zero-edge }
 
-zero-rect : WholeRect 5 zeroRect
+pub zero-rect : WholeRect 5 zeroRect
 zero-rect = record { left = zero-edge; top = zero-edge; right = zero-edge; bottom = zero-edge }
 
 after-whole : (h : Heading) → WholeRect 5 (h .«max_rect») → WholeSize 5 (h .spacing) → {rs : List Record} → AllWhole rs → WholeSheet 5 (afterHeading h rs)

@@ -1,0 +1,28 @@
+use Rattle.text.proofs.Signs.{Same}
+use borrow.Author.Needs.{needs}
+use Rattle.embed.proofs.handing.put_plate.Statement.{statement}
+use Rattle.embed.proofs.handing.put_plate.Tie as tie
+
+tick-requires : tie.Need-tick-requires
+tick-requires c κs = search needs
+
+tick-requires-2 : tie.Need-tick-requires-2
+tick-requires-2 c κs = search needs
+
+tick-requires-3 : tie.Need-tick-requires-3
+tick-requires-3 c κs = search needs
+
+tick-requires-4 : tie.Need-tick-requires-4
+tick-requires-4 c κs = search needs
+
+returns : tie.Need-returns
+returns c =
+    let e1 : Same (c .before .before .before .tick .result) = search needs in
+    let e2 : Same (c .before .before .tick2 .result) = search needs in
+    let e3 : Same (c .before .tick3 .result) = search needs in
+    let e4 : Same (c .tick4 .result) = search needs in
+    rw (e1, e2, e3, e4, c .before .before .before .tick .ensures, c .before .before .tick2 .ensures, c .before .tick3 .ensures, c .tick4 .ensures)
+
+pub put-plate-spec : {M : Type 1} → statement M
+put-plate-spec =
+    tie.close (tie.spec tick-requires tick-requires-2 tick-requires-3 tick-requires-4 returns)

@@ -1,0 +1,35 @@
+-- What the calls of include/platelist.h answer, and leave in the caller's memory.
+use Prim.Native.Nat.{ℕ}
+use mathlib.Core.Bool.{cond}
+use mathlib.Core.List.{List}
+use lib.Dec.{leb}
+use lib.IntN.{ℤ}
+use lib.ListN.{length}
+use lib.Seq.{sets}
+use lib.Ieee.{Float}
+use Rattle.grid.specs.declared.Memory.{Memory}
+use Rattle.sheet.specs.Sheets.{inTicks}
+use Rattle.sheet.specs.Slices.{edges, LaidOut}
+use Rattle.listing.specs.Lists.{listOf}
+
+-- a memory in the caller's arrays, with its counts
+abbrev pub memoryOf : List Float → ℕ → List Float → ℕ → Memory
+memoryOf widths cols heights rows = record { «col_widths» = widths; cols = cols; «row_heights» = heights; rows = rows }
+
+-- the refusal's number and record (0 and 0: accepted), the slice of the rectangles, the plate's edges in ticks, the memory
+pub record Handed : Type 0 where
+  pub number : ℕ
+  pub at : ℕ
+  pub places : List ℤ
+  pub plate : List ℤ
+  pub memory : Memory
+
+abbrev pub handed : LaidOut → Handed
+handed l = record { number = l .outcome .number; at = l .outcome .at; places = l .slice; plate = edges (inTicks 5 (l .outcome .plate)); memory = l .outcome .memory }
+
+-- a text's length, and a slice with the text from its start where all of it has room; else the slice as it was
+unfoldable pub whole : List ℕ → List ℕ → ℕ × List ℕ
+whole out l = (length l, cond (leb (length l) (length out)) (sets out 0 l) out)
+
+abbrev pub listInto : List ℕ → List ℕ → ℕ × List ℕ
+listInto out text = whole out (listOf text)

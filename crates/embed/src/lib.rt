@@ -1,0 +1,66 @@
+// The calls of include/platelist.h, for C and Rust: from a sheet's text to rectangles, plate, memory and list, all in the caller's memory.
+mod handing;
+
+use handing::copy_whole;
+use handing::memory_of;
+use handing::put_passed;
+use listing::MAX_LIST;
+use listing::printing::print;
+use listing::printing::settle;
+use sheet::passing::pass;
+ghost use mathlib.Core.Path.{_≡_};
+ghost use Rattle.sheet.specs.Slices.{laid};
+ghost use Rattle.listing.specs.Lists.{settled};
+ghost use Rattle.embed.specs.Calls.{memoryOf, handed, listInto};
+
+// One pass: with the memory in the arrays where it is known, sizing or not. It answers the number, 0 where the sheet is accepted.
+#[no_mangle]
+pub extern "C" fn platelist_pass(
+    text: &[u8],
+    known: bool,
+    sizing: bool,
+    places: &mut [i32],
+    plate: &mut [i32; 4],
+    widths: &mut [f32; 32],
+    cols: &mut usize,
+    heights: &mut [f32; 128],
+    rows: &mut usize,
+    save: &mut bool,
+    at: &mut usize,
+) -> u8
+    ensures { λ n. ⌜ (record { number = n; at = now (at .exit); places = now (places .exit); plate = now (plate .exit); memory = memoryOf (now (widths .exit)) (now (cols .exit)) (now (heights .exit)) (now (rows .exit)) } ≡ handed (laid (now (text .entry)) known (memoryOf (now (widths .entry)) (now (cols .entry)) (now (heights .entry)) (now (rows .entry))) sizing (now (places .entry)))) × (now (save .exit) ≡ laid (now (text .entry)) known (memoryOf (now (widths .entry)) (now (cols .entry)) (now (heights .entry)) (now (rows .entry))) sizing (now (places .entry)) .outcome .save) ⌝ }
+{
+    let memory = memory_of(widths, *cols, heights, *rows);
+    let p = pass(text, known, memory, sizing, places);
+    *save = p.save;
+    put_passed(plate, widths, cols, heights, rows, at, p)
+}
+
+// What program platelist lays out: one pass, or with G the second of two.
+#[no_mangle]
+pub extern "C" fn platelist_settle(
+    text: &[u8],
+    places: &mut [i32],
+    plate: &mut [i32; 4],
+    widths: &mut [f32; 32],
+    cols: &mut usize,
+    heights: &mut [f32; 128],
+    rows: &mut usize,
+    at: &mut usize,
+) -> u8
+    ensures { λ n. ⌜ record { number = n; at = now (at .exit); places = now (places .exit); plate = now (plate .exit); memory = memoryOf (now (widths .exit)) (now (cols .exit)) (now (heights .exit)) (now (rows .exit)) } ≡ handed (settled (now (text .entry)) (now (places .entry))) ⌝ }
+{
+    let p = settle(text, places);
+    put_passed(plate, widths, cols, heights, rows, at, p)
+}
+
+// The list's length; the list itself where the slice has room for all of it.
+#[no_mangle]
+pub extern "C" fn platelist_list(text: &[u8], out: &mut [u8]) -> usize
+    ensures { λ n. ⌜ (n, now (out .exit)) ≡ listInto (now (out .entry)) (now (text .entry)) ⌝ }
+{
+    let mut list: [u8; MAX_LIST] = [0; MAX_LIST];
+    let n = print(text, &mut list);
+    copy_whole(&list, n, out);
+    n
+}

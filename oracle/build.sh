@@ -1,4 +1,5 @@
 # What the scripts here share. To be sourced in the repository's root, under set -euo pipefail.
+. tools/libraries.sh
 
 # need_cargo WHAT: ends with status 3 where WHAT cannot be built.
 need_cargo() {
@@ -11,16 +12,9 @@ need_cargo() {
     done
 }
 
-# build_probes NAME...: the static libraries of these crates, where a source is newer.
+# build_probes NAME...: the static libraries of these crates.
 build_probes() {
-    local name lib
-    for name; do
-        lib=target/staticlib/lib$name.a
-        # Folders count too: theirs is the time that a removed file changes.
-        if [ ! -e "$lib" ] || [ -n "$(find crates.txt crates/*/src -newer "$lib" -print -quit)" ]; then
-            rt staticlib "$name" </dev/null
-        fi
-    done
+    build_libraries "$@"
     export PROBE_LIB_DIR="$PWD/target/staticlib"
 }
 

@@ -4,7 +4,7 @@ use std::cell::Cell;
 
 use crate::faults;
 use crate::rng::Rng;
-use crate::tally::{Answer, Shown, Tally, Value};
+use crate::tally::{Answer, Shown, Tally, Value, say};
 use crate::values::Values;
 
 /// What document 01 makes of a call.
@@ -138,7 +138,7 @@ impl Tally {
     /// Shows the counts, and what is lacking among them.
     pub fn judge(&mut self, operation: &Operation<'_>, counts: &Counts) {
         let name = operation.name;
-        println!("{}", counts.show());
+        say!(self, "{}", counts.show());
         let calls: u64 = counts.numbers.iter().map(Cell::get).sum();
         if counts.numbers[0].get() * 3 < calls {
             self.lacking(&format!("{name}: fewer than a third were accepted"));

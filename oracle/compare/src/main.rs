@@ -13,6 +13,7 @@ mod faults;
 mod grid;
 #[cfg(feature = "layout")]
 mod layout;
+mod parts;
 #[cfg(feature = "placer")]
 mod placer;
 mod probe;
@@ -24,6 +25,7 @@ mod values;
 use std::env;
 use std::process::ExitCode;
 
+use parts::Part;
 use tally::Tally;
 
 const SEED: u64 = 1;
@@ -38,6 +40,30 @@ const FEWEST: u64 = if cfg!(feature = "placer") {
 } else {
     20_000_000
 };
+
+/// Those that take longest come first, so that no processor is left alone with one at the end.
+const PARTS: &[Part] = &[
+    #[cfg(feature = "placer")]
+    sheet::lists::compare,
+    sheet::sheets::compare,
+    #[cfg(feature = "placer")]
+    sheet::passes::compare,
+    #[cfg(feature = "placer")]
+    placer::compare,
+    #[cfg(feature = "grid")]
+    grid::compare,
+    #[cfg(feature = "layout")]
+    layout::compare,
+    sheet::fields::compare,
+    sheet::writers::compare,
+    #[cfg(feature = "placer")]
+    sheet::cases::compare,
+    #[cfg(feature = "placer")]
+    sheet::fixed::compare,
+    emath_ops::compare,
+    emath_align::compare,
+    emath_domain::compare,
+];
 
 const USAGE: &str = "usage: compare [--seed N] [--times K], or compare --answers";
 
@@ -73,7 +99,7 @@ fn arguments() -> Result<Arguments, String> {
 
 #[cfg(feature = "placer")]
 fn write_answers() -> Result<(), String> {
-    sheet::write_answers().map_err(|why| why.to_string())
+    sheet::fixed::write().map_err(|why| why.to_string())
 }
 
 #[cfg(not(feature = "placer"))]
@@ -94,23 +120,12 @@ fn main() -> ExitCode {
 }
 
 fn compare(seed: u64, times: u64) -> ExitCode {
-    let mut tally = Tally::new(seed, times);
-    emath_ops::compare(&mut tally);
-    emath_align::compare(&mut tally);
-    emath_domain::compare(&mut tally);
-    #[cfg(feature = "layout")]
-    layout::compare(&mut tally);
-    #[cfg(feature = "grid")]
-    grid::compare(&mut tally);
-    #[cfg(feature = "placer")]
-    placer::compare(&mut tally);
-    sheet::compare(&mut tally);
     let Tally {
         cases,
         differences,
         lacks,
         ..
-    } = tally;
+    } = parts::run(PARTS, seed, times);
     println!("compare: {cases} cases, {differences} differences");
     if differences == 0 && lacks == 0 && cases >= FEWEST {
         ExitCode::SUCCESS

@@ -3,44 +3,26 @@
 
 mod answers;
 #[cfg(feature = "placer")]
-mod cases;
+pub mod cases;
 mod counts;
 mod damage;
 #[cfg(feature = "placer")]
 mod drawn;
 #[cfg(feature = "placer")]
 mod driver;
-mod fields;
+pub mod fields;
 #[cfg(feature = "placer")]
-mod fixed;
+pub mod fixed;
 #[cfg(feature = "placer")]
 mod full;
 #[cfg(feature = "placer")]
 mod listing;
 #[cfg(feature = "placer")]
-mod lists;
+pub mod lists;
 #[cfg(feature = "placer")]
-mod passes;
+pub mod passes;
 mod probe;
 mod reference;
-mod sheets;
+pub mod sheets;
 mod texts;
-mod writers;
-
-use crate::tally::Tally;
-#[cfg(feature = "placer")]
-pub use fixed::write as write_answers;
-
-pub fn compare(t: &mut Tally) {
-    fields::compare(t);
-    writers::compare(t);
-    sheets::compare(t);
-    #[cfg(feature = "placer")]
-    passes::compare(t);
-    #[cfg(feature = "placer")]
-    cases::compare(t);
-    #[cfg(feature = "placer")]
-    fixed::compare(t);
-    #[cfg(feature = "placer")]
-    lists::compare(t);
-}
+pub mod writers;

@@ -3,7 +3,15 @@
 use crate::rng::Rng;
 use crate::values::Values;
 
-/// Differences that are printed in full; the rest are counted.
+/// Like println, into what a part of the comparison has to say.
+macro_rules! say {
+    ($tally:expr, $($words:tt)+) => {
+        $tally.say(&format!($($words)+))
+    };
+}
+pub(crate) use say;
+
+/// Differences of each part that are shown in full; the rest are counted.
 const SHOWN: u64 = 10;
 
 /// What goes into an operation or comes out of it.
@@ -146,6 +154,8 @@ pub struct Tally {
     pub lacks: u64,
     pub times: u64,
     pub seed: u64,
+    /// What there is to show, in whole lines.
+    pub said: String,
 }
 
 impl Tally {
@@ -156,11 +166,24 @@ impl Tally {
             lacks: 0,
             times,
             seed,
+            said: String::new(),
         }
     }
 
+    pub fn say(&mut self, line: &str) {
+        self.said += line;
+        self.said.push('\n');
+    }
+
+    /// Adds what another part counted.
+    pub fn add(&mut self, other: &Self) {
+        self.cases += other.cases;
+        self.differences += other.differences;
+        self.lacks += other.lacks;
+    }
+
     pub fn lacking(&mut self, what: &str) {
-        println!("lacking: {what}");
+        say!(self, "lacking: {what}");
         self.lacks += 1;
     }
 
@@ -195,7 +218,7 @@ impl Tally {
             let (ours, theirs) = (rattle(&case), rust(&case));
             differing += u64::from(!self.agree(name, &case, &ours, &theirs));
         }
-        println!("{name}: {compared} cases, {differing} differ");
+        say!(self, "{name}: {compared} cases, {differing} differ");
     }
 
     /// Counts one case, and shows it where the two sides differ.
@@ -221,9 +244,9 @@ impl Tally {
         let same = one.same(other);
         self.differences += u64::from(!same);
         if !same && self.differences <= SHOWN {
-            println!("differs: {name} of {}", case.show());
-            println!("  {:6} {}", sides[0], one.show());
-            println!("  {:6} {}", sides[1], other.show());
+            say!(self, "differs: {name} of {}", case.show());
+            say!(self, "  {:6} {}", sides[0], one.show());
+            say!(self, "  {:6} {}", sides[1], other.show());
         }
         same
     }

@@ -5,7 +5,7 @@ use std::cell::Cell;
 use egui::grid::driver::{Grid, Memory};
 
 use super::{Saved, counted, number_of_memory};
-use crate::tally::{Same, Tally};
+use crate::tally::{Same, Tally, say};
 
 #[derive(Clone, Copy)]
 pub enum Corner {
@@ -57,7 +57,7 @@ impl Corners {
 
     pub fn show(&self, t: &mut Tally) {
         for (words, count) in WORDS.iter().zip(&self.0) {
-            println!("corner: {words}: {}", count.get());
+            say!(t, "corner: {words}: {}", count.get());
             if count.get() == 0 {
                 t.lacking(words);
             }

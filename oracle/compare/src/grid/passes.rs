@@ -11,7 +11,7 @@ use crate::answers::{Counts, Expected, Operation};
 use crate::faults::{ROWS, rect_of};
 use crate::layout::states::Draw;
 use crate::rng::Rng;
-use crate::tally::{Answer, Shown, Tally, Value};
+use crate::tally::{Answer, Shown, Tally, Value, say};
 use crate::values::{Edges, Values};
 
 /// 100,000 first passes or more. Their arguments are of the domain, so that few numbers turn up.
@@ -250,6 +250,9 @@ pub fn compare(t: &mut Tally, corners: &Corners) {
     }
     let (calls, differ) = (t.cases - cases, t.differences - differences);
     let (name, passes) = (PASSES.name, firsts + seconds);
-    println!("{name}: {calls} cases in {passes} passes, {differ} differ");
+    say!(
+        t,
+        "{name}: {calls} cases in {passes} passes, {differ} differ"
+    );
     t.judge(&PASSES, &counts);
 }

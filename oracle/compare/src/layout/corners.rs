@@ -7,7 +7,7 @@ use emath::Rect;
 use super::layout;
 use crate::emath_ops::rect;
 use crate::faults::{self, OPEN};
-use crate::tally::Tally;
+use crate::tally::{Tally, say};
 use crate::values::{Edges, Fields, State, TICKS_PER_POINT};
 use egui::layout::driver;
 
@@ -75,7 +75,7 @@ impl Corners {
     pub fn show(&self, t: &mut Tally) {
         for ((words, directions), counts) in WORDS.iter().zip(&self.met) {
             let counts = counts.each_ref().map(Cell::get);
-            println!("corner: {words}: {counts:?}");
+            say!(t, "corner: {words}: {counts:?}");
             if directions.iter().any(|&direction| counts[direction] == 0) {
                 t.lacking(words);
             }

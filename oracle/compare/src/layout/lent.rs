@@ -11,7 +11,7 @@ use crate::answers::{Counts, Expected, Operation};
 use crate::faults::of_lengths;
 use crate::probe::UNTOUCHED;
 use crate::rng::Rng;
-use crate::tally::{Answer, Shown, Tally};
+use crate::tally::{Answer, Shown, Tally, say};
 use crate::values::{Fields, State, Values};
 
 const SEQUENCES: u64 = 100_000;
@@ -66,7 +66,7 @@ impl Call {
             thousands: 0,
             numbers: &[4, 5, 6, 9],
         };
-        println!("{}", self.name);
+        say!(t, "{}", self.name);
         t.judge(&operation, &self.counts);
     }
 }
@@ -169,8 +169,11 @@ pub fn compare(t: &mut Tally) {
         after_refusal += sequence.after_refusal;
     }
     let (compared, differ) = (t.cases - cases, t.differences - differences);
-    println!("{NAME}: {compared} cases in {sequences} sequences, {differ} differ");
-    println!("  after a refused call {after_refusal}");
+    say!(
+        t,
+        "{NAME}: {compared} cases in {sequences} sequences, {differ} differ"
+    );
+    say!(t, "  after a refused call {after_refusal}");
     for call in &calls {
         call.judge(t);
     }

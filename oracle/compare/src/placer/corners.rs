@@ -12,7 +12,7 @@ use crate::emath_ops::{edges, rect};
 use crate::faults::{least, rect_of};
 use crate::grid::numbers_of_grid;
 use crate::layout::layout;
-use crate::tally::{Answer, Same, Tally};
+use crate::tally::{Answer, Same, Tally, say};
 
 #[derive(Clone, Copy)]
 enum Corner {
@@ -59,7 +59,7 @@ impl Corners {
     pub fn show(&self, t: &mut Tally) {
         for ((name, _), counts) in KINDS.iter().zip(&self.accepted) {
             let counts = counts.each_ref().map(Cell::get);
-            println!("accepted without a grid, with one: {name}: {counts:?}");
+            say!(t, "accepted without a grid, with one: {name}: {counts:?}");
             // "S in a grid" never is.
             let most = if *name == "Placer::advance_cursor" {
                 1
@@ -72,13 +72,13 @@ impl Corners {
         }
         for (words, counts) in WORDS.iter().zip(&self.met) {
             let counts = counts.each_ref().map(Cell::get);
-            println!("corner: {words}: {counts:?}");
+            say!(t, "corner: {words}: {counts:?}");
             if counts.contains(&0) {
                 t.lacking(words);
             }
         }
         let words = "a faulty grid not there, and so not read";
-        println!("corner: {words}: {}", self.not_read.get());
+        say!(t, "corner: {words}: {}", self.not_read.get());
         if self.not_read.get() == 0 {
             t.lacking(words);
         }

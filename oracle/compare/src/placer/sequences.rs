@@ -12,7 +12,7 @@ use crate::grid::states::begin;
 use crate::layout::layout;
 use crate::layout::states::Draw;
 use crate::rng::Rng;
-use crate::tally::{Answer, Shown, Tally};
+use crate::tally::{Answer, Shown, Tally, say};
 use crate::values::Values;
 
 const NAME: &str = "Placer, sequences";
@@ -172,8 +172,14 @@ pub fn compare(t: &mut Tally) {
     }
     let (calls, differ) = (t.cases - cases, t.differences - differences);
     let sequences = SEQUENCES * t.times;
-    println!("{NAME}: {calls} cases in {sequences} sequences, {differ} differ");
-    println!("  accepted {accepted}; sequences refused {refused}, to the end {whole}");
+    say!(
+        t,
+        "{NAME}: {calls} cases in {sequences} sequences, {differ} differ"
+    );
+    say!(
+        t,
+        "  accepted {accepted}; sequences refused {refused}, to the end {whole}"
+    );
     if accepted < 5 * sequences || whole == 0 || refused == 0 {
         t.lacking("sequences: they are too short, or none is refused or comes to its end");
     }

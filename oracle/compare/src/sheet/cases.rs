@@ -3,7 +3,7 @@
 use super::answers::Bytes;
 use super::listing::list;
 use super::reference::{COLUMNS, MOST_RECORDS};
-use crate::tally::Tally;
+use crate::tally::{Tally, say};
 
 const NAME: &str = "document 01's lists";
 
@@ -225,5 +225,5 @@ pub fn compare(t: &mut Tally) {
         t.agree_as(NAME, case.name, ["Rust", "paper"], [listed, settled]);
     }
     let (count, differ) = (cases.len(), t.differences - differences);
-    println!("{NAME}: {count} cases, {differ} differ");
+    say!(t, "{NAME}: {count} cases, {differ} differ");
 }

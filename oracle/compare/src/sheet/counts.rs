@@ -5,13 +5,13 @@ use std::cell::Cell;
 use super::damage::{Fate, Hit, KINDS, Kind};
 use super::reference::{MOST_RECORDS, PLACES, lines, record_at};
 use super::texts::FIELDS;
-use crate::tally::Tally;
+use crate::tally::{Tally, say};
 
 /// Shows what was counted, and what is lacking.
 pub fn show(t: &mut Tally, name: &str, words: &[&str], counts: &[Cell<u64>]) {
     let shown = words.iter().zip(counts);
     let shown = shown.map(|(words, count)| format!("{words} {}", count.get()));
-    println!("  {}", shown.collect::<Vec<_>>().join(", "));
+    say!(t, "  {}", shown.collect::<Vec<_>>().join(", "));
     for (words, count) in words.iter().zip(counts) {
         if count.get() == 0 {
             t.lacking(&format!("{name}: {words}"));
@@ -46,7 +46,8 @@ impl Damaged {
             Some(least) => format!("; in {} fields, {least} or more each", met.len()),
             None => String::new(),
         };
-        println!(
+        say!(
+            t,
             "damage: {words}: refused 1: {malformed}, 2: {too_long}; survived {survived}{fields}"
         );
         let (lacks, against) = match kind.fate {
@@ -153,7 +154,10 @@ impl Counts {
 
     pub fn show_numbers(&self, t: &mut Tally) {
         let [accepted, one, two, three] = self.numbers;
-        println!("  accepted {accepted}; refused 1: {one}, 2: {two}, 3: {three}");
+        say!(
+            t,
+            "  accepted {accepted}; refused 1: {one}, 2: {two}, 3: {three}"
+        );
         if accepted * 3 < self.numbers.iter().sum() {
             t.lacking("sheets: fewer than a third were accepted");
         }
@@ -167,7 +171,10 @@ impl Counts {
     pub fn show_damage(&self, t: &mut Tally) {
         let (whole, malformed) = (self.whole.survived(), self.whole.numbers[1]);
         let too_long = self.whole.numbers[2];
-        println!("damage: none: refused 1: {malformed}, 2: {too_long}; survived {whole}");
+        say!(
+            t,
+            "damage: none: refused 1: {malformed}, 2: {too_long}; survived {whole}"
+        );
         if malformed != 0 {
             t.lacking("a well-formed sheet is not refused with 1");
         }
@@ -175,7 +182,7 @@ impl Counts {
             damaged.judge(kind, t);
         }
         for (words, count) in CORNERS.iter().zip(self.corners) {
-            println!("corner: {words}: {count}");
+            say!(t, "corner: {words}: {count}");
             if count == 0 {
                 t.lacking(words);
             }

@@ -8,7 +8,7 @@ mod themes;
 use std::fs;
 use std::io;
 
-use crate::tally::{Same, Shown, Tally};
+use crate::tally::{Same, Shown, Tally, say};
 use files::{File, answers, examples, strays};
 
 const NAME: &str = "the fixed list";
@@ -100,5 +100,5 @@ pub fn compare(t: &mut Tally) {
         t.lacking(&format!("{NAME}: {why}"));
     }
     let (sheets, differ) = (t.cases - cases, t.differences - differences);
-    println!("{NAME}: {sheets} cases, {differ} files differ");
+    say!(t, "{NAME}: {sheets} cases, {differ} files differ");
 }

@@ -9,7 +9,7 @@ use super::cases::cases;
 use super::listing::list;
 use super::probe::{self, LIST_ROOM};
 use crate::rng::Rng;
-use crate::tally::{Same, Shown, Tally};
+use crate::tally::{Same, Shown, Tally, say};
 use met::Met;
 
 const NAME: &str = "listing_print";
@@ -99,7 +99,7 @@ pub fn compare(t: &mut Tally) {
         compare_list(t, &text, &listed.bytes, &places);
     }
     let (lists, differ) = (t.cases - cases_before, t.differences - differences);
-    println!("{NAME}: {lists} cases, {differ} differ");
+    say!(t, "{NAME}: {lists} cases, {differ} differ");
     if lists < SHEETS {
         t.lacking(&format!("lists: fewer than {SHEETS}"));
     }

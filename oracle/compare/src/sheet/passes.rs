@@ -10,7 +10,7 @@ use super::{drawn, probe};
 use crate::grid::set_aside;
 use crate::grid::states::begin;
 use crate::rng::Rng;
-use crate::tally::{Same, Shown, Tally, Value};
+use crate::tally::{Same, Shown, Tally, Value, say};
 use crate::values::Values;
 
 const NAME: &str = "sheet_pass";
@@ -111,7 +111,7 @@ impl Met {
     fn show(&self, t: &mut Tally) {
         let refused = (1..=10).map(|n| format!("{n}: {}", self.numbers[n]));
         let refused = refused.collect::<Vec<_>>().join(", ");
-        println!("  accepted {}; refused {refused}", self.numbers[0]);
+        say!(t, "  accepted {}; refused {refused}", self.numbers[0]);
         if self.numbers[0] * 3 < self.numbers.iter().sum() {
             t.lacking("passes: fewer than a third were accepted");
         }
@@ -121,7 +121,7 @@ impl Met {
             }
         }
         for (words, count) in CORNERS.iter().zip(self.corners) {
-            println!("corner: {words}: {count}");
+            say!(t, "corner: {words}: {count}");
             if count == 0 {
                 t.lacking(words);
             }
@@ -198,6 +198,6 @@ pub fn compare(t: &mut Tally) {
         compare_pass(t, &other, &mut met);
     }
     let (passes, differ) = (t.cases - cases, t.differences - differences);
-    println!("{NAME}: {passes} cases, {differ} differ");
+    say!(t, "{NAME}: {passes} cases, {differ} differ");
     met.show(t);
 }

@@ -6,7 +6,7 @@ use super::damage::damage;
 use super::reference::{self, MOST_RECORDS, PLACES, lines};
 use super::{probe, texts};
 use crate::rng::Rng;
-use crate::tally::{Shown, Tally};
+use crate::tally::{Shown, Tally, say};
 
 const SHEETS: &str = "sheet_check";
 const RECORDS: &str = "record_read";
@@ -93,13 +93,13 @@ pub fn compare(t: &mut Tally) {
         }
         records_differ += t.differences - before;
     }
-    println!("{SHEETS}: {sheets} cases, {sheets_differ} differ");
+    say!(t, "{SHEETS}: {sheets} cases, {sheets_differ} differ");
     counts.show_numbers(t);
     let records = kinds.iter().sum::<u64>();
-    println!("{RECORDS}: {records} cases, {records_differ} differ");
+    say!(t, "{RECORDS}: {records} cases, {records_differ} differ");
     let shown = RECORD_KINDS.iter().zip(kinds);
     let shown = shown.map(|(words, count)| format!("{words}: {count}"));
-    println!("  {}", shown.collect::<Vec<_>>().join(", "));
+    say!(t, "  {}", shown.collect::<Vec<_>>().join(", "));
     for (words, count) in RECORD_KINDS.iter().zip(kinds) {
         if count == 0 {
             t.lacking(&format!("a record read as {words}"));

@@ -3,7 +3,7 @@
 use super::long::MOST_BYTES;
 use crate::sheet::listing::Listed;
 use crate::sheet::reference::{MOST_RECORDS, PLACES, Record, lines, record_at};
-use crate::tally::Tally;
+use crate::tally::{Tally, say};
 use crate::values::LIMIT_TICKS;
 
 /// The numbers that a text can get. 3 is not among them, since there is room for every W; nor are 4
@@ -185,7 +185,7 @@ impl Met {
     pub fn show(&self, t: &mut Tally) {
         let refused = (1..=10).map(|n| format!("{n}: {}", self.numbers[n]));
         let refused = refused.collect::<Vec<_>>().join(", ");
-        println!("  accepted {}; refused {refused}", self.numbers[0]);
+        say!(t, "  accepted {}; refused {refused}", self.numbers[0]);
         if self.numbers[0] * 2 < self.numbers.iter().sum() {
             t.lacking("lists: fewer than half were accepted");
         }
@@ -197,7 +197,7 @@ impl Met {
         self.show_letters(t);
         let accepted = ACCEPTED.iter().zip(&self.accepted);
         for (words, count) in accepted.chain(REFUSED.iter().zip(&self.refused)) {
-            println!("corner: {words}: {count}");
+            say!(t, "corner: {words}: {count}");
             if *count == 0 {
                 t.lacking(words);
             }
@@ -213,7 +213,7 @@ impl Met {
         let [without, with] = self
             .layouts
             .map(|of| of.iter().filter(|&&n| n != 0).count());
-        println!("  with {shown}; layouts {without}, in a grid {with}");
+        say!(t, "  with {shown}; layouts {without}, in a grid {with}");
         for (letter, count) in letters.zip(self.letters) {
             if count == 0 {
                 t.lacking(&format!("lists: none with {letter}"));

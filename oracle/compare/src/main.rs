@@ -44,25 +44,25 @@ const FEWEST: u64 = if cfg!(feature = "placer") {
 /// Those that take longest come first, so that no processor is left alone with one at the end.
 const PARTS: &[Part] = &[
     #[cfg(feature = "placer")]
-    sheet::lists::compare,
-    sheet::sheets::compare,
-    #[cfg(feature = "placer")]
-    sheet::passes::compare,
-    #[cfg(feature = "placer")]
     placer::compare,
+    sheet::sheets::compare,
     #[cfg(feature = "grid")]
     grid::compare,
+    #[cfg(feature = "placer")]
+    sheet::lists::compare,
     #[cfg(feature = "layout")]
     layout::compare,
-    sheet::fields::compare,
+    #[cfg(feature = "placer")]
+    sheet::passes::compare,
     sheet::writers::compare,
+    emath_ops::compare,
+    emath_align::compare,
+    emath_domain::compare,
+    sheet::fields::compare,
     #[cfg(feature = "placer")]
     sheet::cases::compare,
     #[cfg(feature = "placer")]
     sheet::fixed::compare,
-    emath_ops::compare,
-    emath_align::compare,
-    emath_domain::compare,
 ];
 
 const USAGE: &str = "usage: compare [--seed N] [--times K], or compare --answers";

@@ -105,3 +105,7 @@ module _ (l : LaidOut) (f : Fit (l .outcome)) (p : Passed) (a : p ≡ passedOf (
       let d : plate ≡ edges (inTicks 5 (l .outcome .plate)) = e₄ ∙ ap (λ (q : Passed). edges (inTicks 5 (q .plate))) a in
       let g : m ≡ l .outcome .memory = e₅ ∙ ap (λ (q : Passed). q .memory) a in
       rw (b, c, e₃, d, g)
+
+-- with the flag
+pub with-save : (a b : Handed) (c d : Bool) → a ≡ b → c ≡ d → _≡_ {A = Handed × Bool} (a, c) (b, d)
+with-save a b c d e f = rw (e, f)

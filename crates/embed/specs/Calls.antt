@@ -1,6 +1,6 @@
 -- What the calls of include/platelist.h answer, and leave in the caller's memory.
 use Prim.Native.Nat.{ℕ}
-use mathlib.Core.Bool.{cond}
+use mathlib.Core.Bool.{Bool, cond}
 use mathlib.Core.List.{List}
 use lib.Dec.{leb}
 use lib.IntN.{ℤ}
@@ -9,7 +9,7 @@ use lib.Seq.{sets}
 use lib.Ieee.{Float}
 use Rattle.grid.specs.declared.Memory.{Memory}
 use Rattle.sheet.specs.Sheets.{inTicks}
-use Rattle.sheet.specs.Slices.{edges, LaidOut}
+use Rattle.sheet.specs.Slices.{edges, LaidOut, laid}
 use Rattle.listing.specs.Lists.{listOf}
 
 -- a memory in the caller's arrays, with its counts
@@ -26,6 +26,10 @@ pub record Handed : Type 0 where
 
 abbrev pub handed : LaidOut → Handed
 handed l = record { number = l .outcome .number; at = l .outcome .at; places = l .slice; plate = edges (inTicks 5 (l .outcome .plate)); memory = l .outcome .memory }
+
+-- one pass, with the memory (where it is known) and sizing or not; and whether the memory is to be saved
+abbrev pub onePass : List ℕ → Bool → Memory → Bool → List ℤ → Handed × Bool
+onePass text known m sizing out = (handed (laid text known m sizing out), laid text known m sizing out .outcome .save)
 
 -- a text's length, and a slice with the text from its start where all of it has room; else the slice as it was
 unfoldable pub whole : List ℕ → List ℕ → ℕ × List ℕ

@@ -9,9 +9,8 @@ use listing::printing::print;
 use listing::printing::settle;
 use sheet::passing::pass;
 ghost use mathlib.Core.Path.{_≡_};
-ghost use Rattle.sheet.specs.Slices.{laid};
 ghost use Rattle.listing.specs.Lists.{settled};
-ghost use Rattle.embed.specs.Calls.{memoryOf, handed, listInto};
+ghost use Rattle.embed.specs.Calls.{memoryOf, handed, onePass, listInto};
 
 // One pass: with the memory in the arrays where it is known, sizing or not. It answers the number, 0 where the sheet is accepted.
 #[no_mangle]
@@ -28,7 +27,7 @@ pub extern "C" fn platelist_pass(
     save: &mut bool,
     at: &mut usize,
 ) -> u8
-    ensures { λ n. ⌜ (record { number = n; at = now (at .exit); places = now (places .exit); plate = now (plate .exit); memory = memoryOf (now (widths .exit)) (now (cols .exit)) (now (heights .exit)) (now (rows .exit)) } ≡ handed (laid (now (text .entry)) known (memoryOf (now (widths .entry)) (now (cols .entry)) (now (heights .entry)) (now (rows .entry))) sizing (now (places .entry)))) × (now (save .exit) ≡ laid (now (text .entry)) known (memoryOf (now (widths .entry)) (now (cols .entry)) (now (heights .entry)) (now (rows .entry))) sizing (now (places .entry)) .outcome .save) ⌝ }
+    ensures { λ n. ⌜ (record { number = n; at = now (at .exit); places = now (places .exit); plate = now (plate .exit); memory = memoryOf (now (widths .exit)) (now (cols .exit)) (now (heights .exit)) (now (rows .exit)) }, now (save .exit)) ≡ onePass (now (text .entry)) known (memoryOf (now (widths .entry)) (now (cols .entry)) (now (heights .entry)) (now (rows .entry))) sizing (now (places .entry)) ⌝ }
 {
     let memory = memory_of(widths, *cols, heights, *rows);
     let p = pass(text, known, memory, sizing, places);

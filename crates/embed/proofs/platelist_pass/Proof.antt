@@ -1,6 +1,6 @@
 use mathlib.Core.Path.{ap}
 use Rattle.sheet.specs.declared.Passed.{Passed}
-use Rattle.embed.proofs.Handed.{laid-fit, plate-fits, handed-out}
+use Rattle.embed.proofs.Handed.{laid-fit, plate-fits, handed-out, with-save}
 use borrow.Author.Needs.{needs}
 use Rattle.embed.proofs.platelist_pass.Statement.{statement}
 use Rattle.embed.proofs.platelist_pass.Tie as tie
@@ -21,7 +21,7 @@ returns : tie.Need-returns
 returns c =
     let s = rw (c .before .before .before .before .before .before .before .before .before .before .memory-of .ensures) at (c .before .before .before .before .before .before .before .before .pass .ensures) in
     let q = c .put-passed .ensures in
-    (handed-out _ (laid-fit _ _ _ _ _) _ (s .0) _ _ _ _ _ (q .0 .0) (q .0 .1) (s .1) (q .1 .0) (q .1 .1), ap (λ (p : Passed). p .save) (s .0))
+    with-save _ _ _ _ (handed-out _ (laid-fit _ _ _ _ _) _ (s .0) _ _ _ _ _ (q .0 .0) (q .0 .1) (s .1) (q .1 .0) (q .1 .1)) (ap (λ (p : Passed). p .save) (s .0))
 
 pub platelist-pass-spec : {M : Type 1} → statement M
 platelist-pass-spec =

@@ -179,7 +179,7 @@ pub fn has_text(z: i32) -> bool
     z < 100000000
 }
 
-fn magnitude(z: i32) -> u32
+pub fn magnitude(z: i32) -> u32
     requires { ⌜ natAbs z < 100000000 ⌝ }
     ensures { λ r. ⌜ r ≡ natAbs z ⌝ }
 {

@@ -1,0 +1,230 @@
+-- How long each part of a drawing can be, and so the whole: it has room in 300,000 bytes. Assumes nothing.
+use Prim.Native.Nat.{ℕ, zero, suc, _+_, _*_, _%_, _≤_}
+use mathlib.Core.Path.{_≡_, refl, ap, sym, _∙_}
+use mathlib.Core.Bool.{Bool, true, false, cond}
+use mathlib.Core.List.{List, [], _∷_, _++_}
+use native.Mathlib.Omega.{arith}
+use native.Mathlib.Nat.{mul-le-mul}
+use lib.Dec.{T, leb, eqb, lit≤}
+use lib.ListN.{length}
+use Rattle.drawing.specs.Pieces.{Put, emits, marked, next, filled, joined}
+use Rattle.drawing.specs.Pages.{Fair, isLine, linesFrom, pageFor, pageWidth, pageHeight}
+use Rattle.drawing.specs.Drawings.{columnLines, rowLines, control, outlines, window, wholeWindow, windows, captions, label, labels, widgetRow, plateRow, columnRow, rowRow, one, each, seen, flat, covers}
+use Rattle.drawing.specs.Pictures.{style, head, points, title, gridded, shapes, widthLine, heightLine, dimensions, scaleLine, scale, picture, key, accepted, reason, numberOf, refusal, drawnFrom, pieces, drawing, drawnIn}
+use Rattle.drawing.specs.declared.Page.{Page}
+use Rattle.drawing.specs.declared.Layer.{Layer}
+use Rattle.drawing.specs.declared.Layer.the-variants.{ColumnLines, RowLines, Outlines, Windows, Captions, Labels, WidgetRows, ColumnRows, RowRows}
+use Rattle.drawing.specs.declared.Shared.the-variants.{Column, Row, Place}
+use Rattle.drawing.proofs.Room.{size, size-append, emits-room}
+use Rattle.drawing.proofs.Sizes.{taken, most, filled-size}
+use Rattle.drawing.proofs.Ruling.{lines-few, page-fair}
+
+fill : (t s : List ℕ) (line : ℕ) (ns : List ℕ) {n : ℕ} → T (leb (most 0 t) n) → size (filled t s line ns) ≤ n
+fill t s line ns {n} h = let l : most 0 t ≤ n = lit≤ h in omega (arith, filled-size 0 t s line ns)
+
+both : (xs ys : List (List ℕ)) {m n : ℕ} → size xs ≤ m → size ys ≤ n → size (xs ++ ys) ≤ m + n
+both xs ys a b = omega (arith, size-append xs ys)
+
+nothing : (n : ℕ) → size [] ≤ n
+unfolding joined
+nothing n = omega arith
+
+-- ---- a line or a band
+abbrev share : Layer → ℕ
+share ColumnLines = 65
+share RowLines = 69
+share Outlines = 172
+share Windows = 148
+share Captions = 69
+share Labels = 62
+share WidgetRows = 155
+share ColumnRows = 92
+share RowRows = 92
+
+module _ (p : Page) (s : List ℕ) where
+  column-size : (k : ℕ) (b : Bool) → seen Column p s k k ≡ b → size (columnLines p s k) ≤ 65
+  unfolding columnLines most taken marked next
+  column-size k true e = rw e (nothing 65)
+  column-size k false e = rw e (fill _ _ _ _ tt)
+
+  row-size : (k : ℕ) (b : Bool) → seen Row p s k k ≡ b → size (rowLines p s k) ≤ 69
+  unfolding rowLines most taken marked next
+  row-size k true e = rw e (nothing 69)
+  row-size k false e = rw e (fill _ _ _ _ tt)
+
+  control-size : (k : ℕ) (b : Bool) → flat s k ≡ b → size (control p s k) ≤ 99
+  unfolding control most taken marked next
+  control-size k true e = rw e (fill _ _ _ _ tt)
+  control-size k false e = rw e (fill _ _ _ _ tt)
+
+  outlines-size : (k : ℕ) → size (outlines p s k) ≤ 73 + 99
+  unfolding outlines most taken marked next
+  outlines-size k = both _ _ {m = 73} (fill _ _ _ _ tt) (control-size k _ refl)
+
+  window-size : (i : ℕ) (b : Bool) → p .wide ≡ b → size (window p s i) ≤ 148
+  unfolding window most taken marked next
+  window-size i true e = rw e (fill _ _ _ _ tt)
+  window-size i false e = rw e (fill _ _ _ _ tt)
+
+  windows-size : (i : ℕ) (b : Bool) → eqb (p .bands) 1 ≡ b → size (windows p s i) ≤ 148
+  unfolding windows wholeWindow most taken marked next
+  windows-size i true e = rw e (fill _ _ _ _ tt)
+  windows-size i false e = rw e (window-size i _ refl)
+
+  caption-size : (i : ℕ) (b : Bool) → p .wide ≡ b → size (captions p s i) ≤ 69
+  unfolding captions most taken marked next
+  caption-size i true e = rw e (fill _ _ _ _ tt)
+  caption-size i false e = rw e (fill _ _ _ _ tt)
+
+  label-size : (k : ℕ) (b c : Bool) → covers p s k 34 18 ≡ b → covers p s k 22 11 ≡ c → size (label p s k) ≤ 62
+  unfolding label most taken marked next
+  label-size k true c e f = rw e (fill _ _ _ _ tt)
+  label-size k false true e f = rw (e, f) (fill _ _ _ _ tt)
+  label-size k false false e f = rw (e, f) (fill _ _ _ _ tt)
+
+  labels-size : (k : ℕ) (b : Bool) → seen Place p s k k ≡ b → size (labels p s k) ≤ 62
+  unfolding labels
+  labels-size k true e = rw e (nothing 62)
+  labels-size k false e = rw e (label-size k _ _ refl refl)
+
+  rows-size : (k : ℕ) → (size (widgetRow p s k) ≤ 155) × (size (columnRow p s k) ≤ 92) × (size (rowRow p s k) ≤ 92)
+  unfolding widgetRow columnRow rowRow most taken marked next
+  rows-size k = (fill _ _ _ _ tt, fill _ _ _ _ tt, fill _ _ _ _ tt)
+
+  one-size : (layer : Layer) (k : ℕ) → size (one layer p s k) ≤ share layer
+  unfolding one
+  one-size ColumnLines k = column-size k _ refl
+  one-size RowLines k = row-size k _ refl
+  one-size Outlines k = outlines-size k
+  one-size Windows k = windows-size k _ refl
+  one-size Captions k = caption-size k _ refl
+  one-size Labels k = labels-size k _ refl
+  one-size WidgetRows k = rows-size k .0
+  one-size ColumnRows k = rows-size k .1
+  one-size RowRows k = rows-size k .2
+
+  each-size : (layer : Layer) (left k : ℕ) → size (each layer p s left k) ≤ left * share layer
+  unfolding each
+  each-size layer zero k = nothing (0 * share layer)
+  each-size layer (suc left) k = omega (arith, size-append (one layer p s k) (each layer p s left (k + 1)), one-size layer k, each-size layer left (k + 1))
+
+  layer-size : (layer : Layer) (count bound : ℕ) → count ≤ bound → size (each layer p s count 0) ≤ bound * share layer
+  layer-size layer count bound h = omega (arith, each-size layer count 0, mul-le-mul {m₁ = share layer} {m₂ = share layer} h (omega arith))
+
+  -- ---- the page
+  points-by : (n : ℕ) (b : Bool) → eqb (n % 32) 0 ≡ b → size (points s n) ≤ 23
+  unfolding points most taken marked next
+  points-by n true e = rw e (fill _ _ _ _ tt)
+  points-by n false e = rw e (fill _ _ _ _ tt)
+
+  points-size : (n : ℕ) → size (points s n) ≤ 23
+  points-size n = points-by n _ refl
+
+  head-size : (width height : ℕ) → size (head s width height) ≤ 133 + 700
+  unfolding head style most taken marked next
+  head-size width height = both _ _ {m = 133} {n = 700} (fill _ _ _ _ tt) (fill _ _ _ _ tt)
+
+  title-size : size (title p s) ≤ 40 + (23 + (8 + (23 + 167)))
+  unfolding title most taken marked next
+  title-size = both _ _ {m = 40} {n = 221} (fill _ _ _ _ tt) (both _ _ {m = 23} {n = 198} (points-size _) (both _ _ {m = 8} {n = 190} (fill _ _ _ _ tt) (both _ _ {m = 23} {n = 167} (points-size _) (fill _ _ _ _ tt))))
+
+  gridded-few : p .widgets ≤ 512 → gridded p ≤ 512
+  gridded-few h = go (eqb (p .columns) 0)
+    where
+      go : (b : Bool) → cond b 0 (p .widgets) ≤ 512
+      go true = omega arith
+      go false = h
+
+  shapes-size : p .widgets ≤ 512 → size (shapes p s) ≤ 238 + (33280 + (35328 + (88064 + 13)))
+  unfolding shapes most taken marked next
+  shapes-size h =
+      both _ _ {m = 238} {n = 156685} (fill _ _ _ _ tt)
+      (both _ _ {m = 33280} {n = 123405} (layer-size ColumnLines _ 512 (gridded-few h))
+      (both _ _ {m = 35328} {n = 88077} (layer-size RowLines _ 512 (gridded-few h))
+      (both _ _ {m = 88064} {n = 13} (layer-size Outlines _ 512 h) (fill _ _ _ _ tt))))
+
+  width-size : size (widthLine p s) ≤ 99 + (23 + 25)
+  unfolding widthLine most taken marked next
+  width-size = both _ _ {m = 99} {n = 48} (fill _ _ _ _ tt) (both _ _ {m = 23} {n = 25} (points-size _) (fill _ _ _ _ tt))
+
+  height-size : size (heightLine p s) ≤ 96 + (23 + 64)
+  unfolding heightLine most taken marked next
+  height-size = both _ _ {m = 96} {n = 87} (fill _ _ _ _ tt) (both _ _ {m = 23} {n = 64} (points-size _) (fill _ _ _ _ tt))
+
+  dimensions-size : p .bands ≤ 22 → (b : Bool) → eqb (p .bands) 1 ≡ b → size (dimensions p s) ≤ 1518
+  unfolding dimensions
+  dimensions-size h true e = let l : size (widthLine p s ++ heightLine p s) ≤ 147 + 183 = both _ _ width-size height-size in rw e (omega (arith, l))
+  dimensions-size h false e = rw e (layer-size Captions _ 22 h)
+
+  scale-size : size (scale p s) ≤ 102 + (23 + 25)
+  unfolding scale scaleLine most taken marked next
+  scale-size = both _ _ {m = 102} {n = 48} (fill _ _ _ _ tt) (both _ _ {m = 23} {n = 25} (points-size _) (fill _ _ _ _ tt))
+
+  picture-size : Fair p → size (picture p s) ≤ 156923 + (3256 + (1518 + (31744 + 150)))
+  unfolding picture
+  picture-size f =
+      both _ _ (shapes-size (f .widgets))
+      (both _ _ (layer-size Windows _ 22 (f .bands))
+      (both _ _ (dimensions-size (f .bands) _ refl)
+      (both _ _ (layer-size Labels _ 512 (f .widgets)) scale-size)))
+
+  key-size : Fair p → size (key p s) ≤ 197 + (79360 + (110 + (2944 + (11776 + 7))))
+  unfolding key plateRow most taken marked next
+  key-size f =
+      both _ _ {m = 197} {n = 94197} (fill _ _ _ _ tt)
+      (both _ _ {m = 79360} {n = 14837} (layer-size WidgetRows _ 512 (f .widgets))
+      (both _ _ {m = 110} {n = 14727} (fill _ _ _ _ tt)
+      (both _ _ {m = 2944} {n = 11783} (layer-size ColumnRows _ 32 (f .columns))
+      (both _ _ {m = 11776} {n = 7} (layer-size RowRows _ 128 (f .rows)) (fill _ _ _ _ tt)))))
+
+  accepted-size : Fair p → size (accepted p s) ≤ 300000
+  unfolding accepted
+  accepted-size f =
+      let l : size (head s (pageWidth p) (pageHeight p) ++ (title p s ++ (picture p s ++ key p s))) ≤ 833 + (261 + (193591 + 94394)) = both _ _ (head-size _ _) (both _ _ title-size (both _ _ (picture-size f) (key-size f))) in
+      omega (arith, l)
+
+-- ---- a refusal
+words-by : (n : ℕ) (b1 b2 b3 b4 b5 b6 b7 b8 b9 b10 : Bool) → eqb n 1 ≡ b1 → eqb n 2 ≡ b2 → eqb n 3 ≡ b3 → eqb n 4 ≡ b4 → eqb n 5 ≡ b5 → eqb n 6 ≡ b6 → eqb n 7 ≡ b7 → eqb n 8 ≡ b8 → eqb n 9 ≡ b9 → eqb n 10 ≡ b10 → most 0 (reason n) ≤ 78
+unfolding reason most taken marked next
+words-by n true _ _ _ _ _ _ _ _ _ e1 _ _ _ _ _ _ _ _ _ = rw (e1) (lit≤ tt)
+words-by n false true _ _ _ _ _ _ _ _ e1 e2 _ _ _ _ _ _ _ _ = rw (e1, e2) (lit≤ tt)
+words-by n false false true _ _ _ _ _ _ _ e1 e2 e3 _ _ _ _ _ _ _ = rw (e1, e2, e3) (lit≤ tt)
+words-by n false false false true _ _ _ _ _ _ e1 e2 e3 e4 _ _ _ _ _ _ = rw (e1, e2, e3, e4) (lit≤ tt)
+words-by n false false false false true _ _ _ _ _ e1 e2 e3 e4 e5 _ _ _ _ _ = rw (e1, e2, e3, e4, e5) (lit≤ tt)
+words-by n false false false false false true _ _ _ _ e1 e2 e3 e4 e5 e6 _ _ _ _ = rw (e1, e2, e3, e4, e5, e6) (lit≤ tt)
+words-by n false false false false false false true _ _ _ e1 e2 e3 e4 e5 e6 e7 _ _ _ = rw (e1, e2, e3, e4, e5, e6, e7) (lit≤ tt)
+words-by n false false false false false false false true _ _ e1 e2 e3 e4 e5 e6 e7 e8 _ _ = rw (e1, e2, e3, e4, e5, e6, e7, e8) (lit≤ tt)
+words-by n false false false false false false false false true _ e1 e2 e3 e4 e5 e6 e7 e8 e9 _ = rw (e1, e2, e3, e4, e5, e6, e7, e8, e9) (lit≤ tt)
+words-by n false false false false false false false false false true e1 e2 e3 e4 e5 e6 e7 e8 e9 e10 = rw (e1, e2, e3, e4, e5, e6, e7, e8, e9, e10) (lit≤ tt)
+words-by n false false false false false false false false false false e1 e2 e3 e4 e5 e6 e7 e8 e9 e10 = rw (e1, e2, e3, e4, e5, e6, e7, e8, e9, e10) (lit≤ tt)
+
+words-size : (s : List ℕ) (n : ℕ) → size (filled (reason n) s 0 []) ≤ 78
+words-size s n = let l : most 0 (reason n) ≤ 78 = words-by n _ _ _ _ _ _ _ _ _ _ refl refl refl refl refl refl refl refl refl refl in omega (arith, filled-size 0 (reason n) s 0 [])
+
+refusal-size : (s : List ℕ) (line : ℕ) → size (refusal s line) ≤ 833 + (106 + (78 + 15))
+unfolding refusal most taken marked next
+refusal-size s line =
+    both _ _ {m = 833} {n = 199} (head-size (pageFor s 0) s 720 110)
+    (both _ _ {m = 106} {n = 93} (fill _ _ _ _ tt)
+    (both _ _ {m = 78} {n = 15} (words-size s (numberOf s line)) (fill _ _ _ _ tt)))
+
+-- ---- the whole
+drawn-by : (s : List ℕ) (w : ℕ) → Fair (pageFor s w) → (b : Bool) → isLine 80 34 s (74 * w) ≡ b → size (drawnFrom s w) ≤ 300000
+unfolding drawnFrom
+drawn-by s w f true e = rw e (accepted-size (pageFor s w) s f)
+drawn-by s w f false e = let l = refusal-size s (74 * w) in rw e (omega (arith, l))
+
+-- a list has at most 512 W lines, and its page is fair
+pub drawing-size : (s : List ℕ) → length (drawing s) ≤ 300000
+unfolding drawing pieces
+drawing-size s = drawn-by s (linesFrom 512 87 74 s 0) (page-fair s (linesFrom 512 87 74 s 0) (lines-few 512 87 74 s 0)) _ refl
+
+pub drawn-there : (s out o : List ℕ) (n w : ℕ) → length out ≡ 300000 → w ≡ linesFrom 512 87 74 s 0
+    → _≡_ {A = Put} (record { at = n; out = o }) (emits (drawnFrom s w) (record { at = 0; out = out }))
+    → (_≡_ {A = ℕ × List ℕ} (n, o) (drawnIn out s)) × (n ≤ 300000)
+unfolding drawing pieces
+drawn-there s out o n w l e h =
+    let z : length (drawing s) ≤ 300000 = drawing-size s in
+    let r = (rw e at h) ∙ emits-room (pieces s) (record { at = 0; out = out }) (omega (arith, z)) in
+    let f : n ≡ length (drawing s) = omega (arith, ap (λ (p : Put). p .at) r) in
+    (rw (f, ap (λ (p : Put). p .out) r) refl, omega arith)

@@ -1,0 +1,9 @@
+-- The laws of a drawing, in the order of the argument.
+pub mod Pieces
+pub mod Numbers
+pub mod Ruling
+pub mod Layers
+pub mod Room
+pub mod Sizes
+pub mod Lengths
+pub mod OfSheets

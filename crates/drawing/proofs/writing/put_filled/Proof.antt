@@ -1,0 +1,57 @@
+use Prim.Native.Nat.{_-_}
+use Rattle.drawing.proofs.Pieces.{part-end, part-turn}
+use Rattle.drawing.specs.Pieces.{emits, filled, filledFrom}
+use borrow.Author.Needs.{needs}
+use lib.ListN.{drop, length}
+use mathlib.Core.Path.{_∙_, _≡_}
+use Rattle.drawing.proofs.writing.put_filled.Statement.{statement}
+use Rattle.drawing.proofs.writing.put_filled.Tie as tie
+
+abbrev Inv-loop : tie.InvT-loop
+Inv-loop out₀ at template list line numbers end₀ mark₀ i₀ out end mark i = (length out ≡ length out₀) × (emits (filledFrom mark (drop i template) list line numbers) (record { at = end; out = out }) ≡ emits (filled template list line numbers) (record { at = at; out = out₀ }))
+
+abbrev μ-loop : tie.MeasureT-loop
+μ-loop out₀ at template list line numbers end₀ mark₀ i₀ out end mark i = length template - i
+
+loop-holds : tie.Need-loop-holds Inv-loop μ-loop
+loop-holds c = search needs
+
+shared-slice-read-b : tie.Need-shared-slice-read-b Inv-loop μ-loop
+shared-slice-read-b c = search needs
+
+put-part-requires : tie.Need-put-part-requires Inv-loop μ-loop
+put-part-requires c κs = search needs
+
+next-requires : tie.Need-next-requires Inv-loop μ-loop
+next-requires c κs = search needs
+
+add-i : tie.Need-add-i Inv-loop μ-loop
+add-i c = search needs
+
+loop-less : tie.Need-loop-less Inv-loop μ-loop
+loop-less c = search needs
+
+loop-again : tie.Need-loop-again Inv-loop μ-loop
+loop-again c = (c .before .before .before .put-part .kept .0 ∙ c .before .before .before .before .before .before .before .loop .inv .0, part-turn (c .before .before .before .before .before .before .before .before .before .before .before .before .args .template .now) (c .before .before .before .before .before .before .before .before .before .before .before .before .args .list .now) (c .before .before .before .before .before .before .before .before .before .before .before .before .args .line) (c .before .before .before .before .before .before .before .before .before .before .before .before .args .numbers .now) (c .before .before .before .before .before .before .before .loop .mark) (c .before .before .before .before .before .before .before .loop .i) _ _ (c .before .before .before .before .before .before .before .loop .inv .1) (c .before .before .before .before .before .before .loop-test .taken) _ _ (c .before .before .before .put-part .ensures) (c .next .ensures))
+
+same-length : tie.Need-same-length Inv-loop μ-loop
+same-length c = search needs
+
+returns : tie.Need-returns Inv-loop μ-loop
+returns c = part-end (c .before .before .before .before .before .before .args .template .now) (c .before .before .before .before .before .before .args .list .now) (c .before .before .before .before .before .before .args .line) (c .before .before .before .before .before .before .args .numbers .now) (c .before .loop .mark) (c .before .loop .i) _ _ (c .before .loop .inv .1) (c .loop-test .left)
+
+pub put-filled-spec : {M : Type 1} → statement M
+put-filled-spec =
+    tie.close
+    (tie.spec
+    Inv-loop
+    μ-loop
+    loop-holds
+    shared-slice-read-b
+    put-part-requires
+    next-requires
+    add-i
+    loop-less
+    loop-again
+    same-length
+    returns)

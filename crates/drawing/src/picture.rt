@@ -1,0 +1,158 @@
+// The drawing of a printed list.
+use crate::MAX_DRAWING;
+use crate::Page;
+use crate::lists::beyond;
+use crate::lists::count_lines;
+use crate::lists::is_line;
+use crate::lists::place_of;
+use crate::pages::page_for;
+use crate::pages::page_height;
+use crate::pages::page_width;
+use crate::sections::put_head;
+use crate::sections::put_key;
+use crate::sections::put_picture;
+use crate::sections::put_title;
+use crate::writing::put_filled;
+ghost use mathlib.Core.Path.{_≡_};
+ghost use mathlib.Core.List.{[]};
+ghost use Prim.Native.Nat.{_+_, _*_, _≤_};
+ghost use Rattle.drawing.specs.Pieces.{Put, emits, filled};
+ghost use Rattle.drawing.specs.Pages.{Fair};
+ghost use Rattle.drawing.specs.Pictures.{accepted, reason, numberOf, refusal, drawnFrom, drawnIn};
+
+fn put_accepted(out: &mut [u8], at: usize, page: Page, list: &[u8]) -> usize
+    requires { ⌜ Fair page ⌝ }
+    ensures { λ r. ⌜ record { at = r; out = now (out .exit) } ≡ emits (accepted page (now (list .entry))) (record { at = at; out = now (out .entry) }) ⌝ }
+{
+    let first = put_head(out, at, list, page_width(page), page_height(page));
+    let title = put_title(out, first, page, list);
+    let plate = put_picture(out, title, page, list);
+    put_key(out, plate, page, list)
+}
+
+// What a refusal's number means.
+fn put_reason(out: &mut [u8], at: usize, list: &[u8], n: usize) -> usize
+    ensures { λ r. ⌜ record { at = r; out = now (out .exit) } ≡ emits (filled (reason n) (now (list .entry)) 0 []) (record { at = at; out = now (out .entry) }) ⌝ }
+{
+    match n {
+        1 => put_filled(
+            out,
+            at,
+            b"A record is malformed, out of its place, or has a field out of its range.",
+            list,
+            0,
+            &[],
+        ),
+        2 => put_filled(
+            out,
+            at,
+            b"The sheet goes on after its 512th record.",
+            list,
+            0,
+            &[],
+        ),
+        3 => put_filled(
+            out,
+            at,
+            b"There is too little room for the rectangles: each control takes eight places.",
+            list,
+            0,
+            &[],
+        ),
+        4 => put_filled(
+            out,
+            at,
+            b"A value is not a number, or is infinite where it may not be.",
+            list,
+            0,
+            &[],
+        ),
+        5 => put_filled(out, at, b"A length is beyond 65,536 points.", list, 0, &[]),
+        6 => put_filled(
+            out,
+            at,
+            b"A size or a remembered length is negative, or a rectangle is inside out.",
+            list,
+            0,
+            &[],
+        ),
+        7 => put_filled(
+            out,
+            at,
+            b"A gap (S) stands in a grid, or a grid runs from right to left or upward.",
+            list,
+            0,
+            &[],
+        ),
+        8 => put_filled(
+            out,
+            at,
+            b"The grid is full: it has at most 32 columns and 128 rows.",
+            list,
+            0,
+            &[],
+        ),
+        9 => put_filled(
+            out,
+            at,
+            b"The result would lie outside the domain: beyond 65,536 points, or without end.",
+            list,
+            0,
+            &[],
+        ),
+        10 => put_filled(out, at, b"A computed frame is inside out.", list, 0, &[]),
+        _ => put_filled(
+            out,
+            at,
+            b"This is no printed list of a sheet.",
+            list,
+            0,
+            &[],
+        ),
+    }
+}
+
+// The number of the X line that begins there, 0 where there is none.
+fn number_of(list: &[u8], line: usize) -> usize
+    requires { ⌜ line ≤ 1000000 ⌝ }
+    ensures { λ r. ⌜ r ≡ numberOf (now (list .entry)) line ⌝ }
+{
+    if is_line(list, line, b'X', 18) {
+        return beyond(10000000, place_of(list, line, 0));
+    }
+    0
+}
+
+fn put_refusal(out: &mut [u8], at: usize, list: &[u8], line: usize) -> usize
+    requires { ⌜ line ≤ 1000000 ⌝ }
+    ensures { λ r. ⌜ record { at = r; out = now (out .exit) } ≡ emits (refusal (now (list .entry)) line) (record { at = at; out = now (out .entry) }) ⌝ }
+{
+    let first = put_head(out, at, list, 720, 110);
+    let title = put_filled(
+        out,
+        first,
+        b"<text class=\"title\" x=\"40\" y=\"44\">Refused: number $0, at record $1</text>\n<text x=\"40\" y=\"76\">",
+        list,
+        line,
+        &[],
+    );
+    let words = put_reason(out, title, list, number_of(list, line));
+    put_filled(out, words, b"</text>\n</svg>\n", list, 0, &[])
+}
+
+fn put_drawn(out: &mut [u8], list: &[u8], widgets: usize) -> usize
+    requires { ⌜ widgets ≤ 512 ⌝ }
+    ensures { λ r. ⌜ record { at = r; out = now (out .exit) } ≡ emits (drawnFrom (now (list .entry)) widgets) (record { at = 0; out = now (out .entry) }) ⌝ }
+{
+    if is_line(list, 74 * widgets, b'P', 34) {
+        return put_accepted(out, 0, page_for(list, widgets), list);
+    }
+    put_refusal(out, 0, list, 74 * widgets)
+}
+
+// Writes the drawing of a list from the slice's start, and answers its length. The rest of the slice stays as it was.
+pub fn draw(list: &[u8], out: &mut [u8; MAX_DRAWING]) -> usize
+    ensures { λ n. ⌜ ((n, now (out .exit)) ≡ drawnIn (now (out .entry)) (now (list .entry))) × (n ≤ 300000) ⌝ }
+{
+    put_drawn(out, list, count_lines(list, 0, b'W', 74, 512))
+}

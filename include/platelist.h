@@ -47,8 +47,9 @@ extern "C" {
 #define PLATELIST_COLUMNS 32
 #define PLATELIST_ROWS 128
 
-/* No list is longer. */
+/* No list is longer, and no drawing. */
 #define PLATELIST_LIST 40802
+#define PLATELIST_DRAWING 300000
 
 #define PLATELIST_STACK 131072
 
@@ -133,6 +134,15 @@ uint8_t platelist_pass(
 size_t platelist_list(
     const uint8_t *text, size_t length,
     uint8_t *out, size_t room);
+
+/* The drawing that program platedraw writes: an SVG of the plate, or of a refused sheet one that says
+ * number, record and the condition in words.
+ *
+ * Answers the drawing's length. The drawing stands at the front of out, and every byte after it is
+ * as it was. There is always room: no drawing is longer than PLATELIST_DRAWING. */
+size_t platelist_draw(
+    const uint8_t *text, size_t length,
+    uint8_t out[PLATELIST_DRAWING]);
 
 #ifdef __cplusplus
 }

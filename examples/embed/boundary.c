@@ -139,11 +139,24 @@ static void lists(void) {
     expect(platelist_list(NULL, 0, out, sizeof out) == 18 && memcmp(out, "X       1       1\n", 18) == 0, "an empty text has a list too");
 }
 
+static void drawings(void) {
+    static const char sheet[] = HEADING CONTROL;
+    static uint8_t out[PLATELIST_DRAWING + 8], marks[PLATELIST_DRAWING + 8];
+    memset(out, MARK, sizeof out);
+    memset(marks, MARK, sizeof marks);
+    size_t drawn = platelist_draw((const uint8_t *)sheet, strlen(sheet), out);
+    expect(drawn < PLATELIST_DRAWING && memcmp(out, "<svg ", 5) == 0 && memcmp(out + drawn - 7, "</svg>\n", 7) == 0, "a drawing is an SVG");
+    expect(memcmp(out + drawn, marks, sizeof out - drawn) == 0, "nothing after the drawing is written");
+    size_t refused = platelist_draw(NULL, 0, out);
+    expect(refused < drawn && memcmp(out, "<svg ", 5) == 0 && memcmp(out + refused - 7, "</svg>\n", 7) == 0, "a refused sheet has a drawing too");
+}
+
 int main(void) {
     short_slices();
     refusals();
     memories();
     lists();
+    drawings();
     printf("boundary: %d checks, %d failures\n", checks, failures);
     return failures == 0 ? EXIT_SUCCESS : EXIT_FAILURE;
 }

@@ -1,6 +1,8 @@
-// The calls of include/platelist.h, for C and Rust: from a sheet's text to rectangles, plate, memory and list, all in the caller's memory.
+// The calls of include/platelist.h, for C and Rust: from a sheet's text to rectangles, plate, memory, list and drawing, all in the caller's memory.
 mod handing;
 
+use drawing::MAX_DRAWING;
+use drawing::sheets::draw_sheet;
 use handing::copy_whole;
 use handing::memory_of;
 use handing::put_passed;
@@ -9,7 +11,8 @@ use listing::printing::print;
 use listing::printing::settle;
 use sheet::passing::pass;
 ghost use mathlib.Core.Path.{_≡_};
-ghost use Rattle.listing.specs.Lists.{settled};
+ghost use Rattle.drawing.specs.Pictures.{drawnIn};
+ghost use Rattle.listing.specs.Lists.{listOf, settled};
 ghost use Rattle.embed.specs.Calls.{memoryOf, handed, onePass, listInto};
 
 // One pass: with the memory in the arrays where it is known, sizing or not. It answers the number, 0 where the sheet is accepted.
@@ -62,4 +65,12 @@ pub extern "C" fn platelist_list(text: &[u8], out: &mut [u8]) -> usize
     let n = print(text, &mut list);
     copy_whole(&list, n, out);
     n
+}
+
+// The drawing, an SVG, from the array's start, and its length.
+#[no_mangle]
+pub extern "C" fn platelist_draw(text: &[u8], out: &mut [u8; MAX_DRAWING]) -> usize
+    ensures { λ n. ⌜ (n, now (out .exit)) ≡ drawnIn (now (out .entry)) (listOf (now (text .entry))) ⌝ }
+{
+    draw_sheet(text, out)
 }

@@ -7,3 +7,5 @@ pub mod Room
 pub mod Sizes
 pub mod Lengths
 pub mod OfSheets
+pub mod OfPasses
+pub mod ShownPasses

@@ -12,7 +12,7 @@ use Rattle.text.specs.declared.Field.the-variants.{Blank, Number, Wrong}
 use Rattle.text.proofs.RoundTrip.{at-is-text}
 use Rattle.drawing.specs.Pieces.{valueOf}
 
-small-text : (z : ℤ) → natAbs z ≤ 9999999 → hasText z ≡ true
+pub small-text : (z : ℤ) → natAbs z ≤ 9999999 → hasText z ≡ true
 unfolding hasText
 small-text (pos n) h = lt-ltb n 100000000 (omega arith)
 small-text (negsuc n) h = lt-ltb n 9999999 (omega arith)

@@ -26,7 +26,7 @@ unfolding inked joined
 inked-size [] = lit≤ tt
 inked-size (b ∷ bs) = omega (arith, size-append (ink b) (inked bs), ink-size b, inked-size bs)
 
-text-size : (z : ℤ) → length (text z) ≡ 8
+pub text-size : (z : ℤ) → length (text z) ≡ 8
 unfolding columns
 text-size z = refl
 

@@ -41,7 +41,7 @@ near p s j k width height = ltb (distance (px p (across p s j)) (px p (across p 
 
 -- their labels would touch; those of two small controls are small
 unfoldable pub touching : Page → List ℕ → ℕ → ℕ → Bool
-touching p s j k = cond (covers p s j 22 11 || covers p s k 22 11) (near p s j k 20 10) (near p s j k 14 6)
+touching p s j k = cond (covers p s j 22 11 || covers p s k 22 11) (near p s j k 20 10) (near p s j k 16 8)
 
 unfoldable pub sameFields : List ℕ → ℕ → ℕ → ℕ → Bool
 sameFields s j k i = eqb (placeOf s (74 * j) i) (placeOf s (74 * k) i) && eqb (placeOf s (74 * j) (i + 2)) (placeOf s (74 * k) (i + 2))
@@ -107,7 +107,7 @@ unfoldable pub label : Page → List ℕ → ℕ → List (List ℕ)
 label p s k =
     cond (covers p s k 34 18) (filled (ascii "<text class=\"large\" x=\"~0\" y=\"~1\">$0</text>\n") s (74 * k) (labelAcross p s k ∷ (labelDown p s k + 5) ∷ []))
     (cond (covers p s k 22 11) (filled (ascii "<text class=\"small\" x=\"~0\" y=\"~1\">$0</text>\n") s (74 * k) (labelAcross p s k ∷ (labelDown p s k + 4) ∷ []))
-    (filled (ascii "<text class=\"tiny\" x=\"~0\" y=\"~1\">$0</text>\n") s (74 * k) (labelAcross p s k ∷ (labelDown p s k + 2) ∷ [])))
+    (filled (ascii "<text class=\"tiny\" x=\"~0\" y=\"~1\">$0</text>\n") s (74 * k) (labelAcross p s k ∷ (labelDown p s k + 3) ∷ [])))
 
 -- it is left out where it would touch an earlier one's; the list below has them all
 unfoldable pub labels : Page → List ℕ → ℕ → List (List ℕ)

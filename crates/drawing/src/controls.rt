@@ -78,7 +78,7 @@ fn touching(page: Page, list: &[u8], j: usize, k: usize) -> bool
     if covers(page, list, j, 22, 11) | covers(page, list, k, 22, 11) {
         return near(page, list, j, k, 20, 10);
     }
-    near(page, list, j, k, 14, 6)
+    near(page, list, j, k, 16, 8)
 }
 
 fn same_fields(list: &[u8], j: usize, k: usize, i: usize) -> bool

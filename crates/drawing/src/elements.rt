@@ -208,7 +208,7 @@ fn put_label(out: &mut [u8], at: usize, page: Page, list: &[u8], k: usize) -> us
             &numbers,
         );
     }
-    let numbers = [x, y + 2];
+    let numbers = [x, y + 3];
     put_filled(
         out,
         at,

@@ -20,7 +20,7 @@ fn put_style(out: &mut [u8], at: usize, list: &[u8]) -> usize
     put_filled(
         out,
         at,
-        b"<style>\n.plate{fill:#f3e2b3;stroke:#6b4f10}\n.cells{stroke:#5b9bd5}\n.frame{fill:none;stroke:#a0522d}\n.control{fill:#fffdf5;fill-opacity:.55;stroke:#333}\n.flat{fill:none;stroke:#333}\n.plate,.cells,.frame,.control,.flat{stroke-linecap:square}\n.line{fill:none;stroke:#333}\ntext{fill:#111;font-size:13px}\n.title{font-size:18px;font-weight:bold}\n.large,.small,.tiny,.middle{text-anchor:middle}\n.large{font-size:14px;font-weight:bold}\n.small{font-size:10px;font-weight:bold}\n.tiny{font-size:6px;paint-order:stroke;stroke:#fff;stroke-width:2px}\n.row{font-family:monospace;font-size:9.5px}\n</style>\n<rect width=\"100%\" height=\"100%\" fill=\"#fff\"/>\n",
+        b"<style>\n.plate{fill:#f3e2b3;stroke:#6b4f10}\n.cells{stroke:#5b9bd5}\n.frame{fill:none;stroke:#a0522d}\n.control{fill:#fffdf5;fill-opacity:.55;stroke:#333}\n.flat{fill:none;stroke:#333}\n.plate,.cells,.frame,.control,.flat{stroke-linecap:square}\n.line{fill:none;stroke:#333}\ntext{fill:#111;font-size:13px}\n.title{font-size:18px;font-weight:bold}\n.large,.small,.tiny,.middle{text-anchor:middle}\n.large{font-size:14px;font-weight:bold}\n.small{font-size:10px;font-weight:bold}\n.tiny{font-size:8px;paint-order:stroke;stroke:#fff;stroke-width:2px}\n.row{font-family:monospace;font-size:9.5px}\n</style>\n<rect width=\"100%\" height=\"100%\" fill=\"#fff\"/>\n",
         list,
         0,
         &[],

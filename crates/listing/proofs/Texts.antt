@@ -27,7 +27,7 @@ unfolding hasText
 few-text (pos n) h = lt-ltb n 100000000 (omega arith)
 few-text (negsuc n) h = lt-ltb n 9999999 (omega arith)
 
-ticks-are : (x : Float) (e : Edge 5 x) → ticks 5 x ≡ e .steps
+pub ticks-are : (x : Float) (e : Edge 5 x) → ticks 5 x ≡ e .steps
 ticks-are x e =
     let E = edge-small 5 (omega arith) e in
     ap (λ (y : Float). ticks 5 y) (e .is) ∙ points-to-steps 5 (omega arith) (e .steps) (omega (arith, E)) .1

@@ -78,7 +78,7 @@ one-or-none (MinWidth w) = omega arith
 one-or-none (MinHeight h) = omega arith
 one-or-none RowEnd = omega arith
 
-at-most-one : (r : Record) → widget r ≤ 1
+pub at-most-one : (r : Record) → widget r ≤ 1
 unfolding widget
 at-most-one (record-of.Heading h) = omega arith
 at-most-one (record-of.Grid g) = omega arith

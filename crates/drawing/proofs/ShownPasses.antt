@@ -1,0 +1,136 @@
+-- A drawing shows its pass: of every text that is accepted, the list that is drawn has the numbers of the pass that is printed. Assumes
+-- nothing.
+use Prim.Native.Nat.{ℕ, zero, suc, _+_, _*_, _≤_, _<_}
+use mathlib.Core.Path.{_≡_, refl, ap, sym, _∙_, subst}
+use mathlib.Core.Bool.{Bool, true, false, cond, _&&_}
+use mathlib.Core.List.{List, [], _∷_, _++_, append-assoc}
+use native.Mathlib.Omega.{arith}
+use borrow.Author.Tests.{eq-eqb}
+use lib.Dec.{eqb}
+use lib.IntN.{ℤ, pos, natAbs}
+use lib.Ieee.{Float}
+use lib.ListN.{length, getD, length-append}
+use Rattle.emath.specs.Steps.{Edge}
+use Rattle.emath.specs.declared.Rect.{Rect}
+use Rattle.layout.specs.Steps.{WholeRect}
+use Rattle.grid.specs.Memories.{emptyMemory}
+use Rattle.grid.specs.declared.Memory.{Memory}
+use Rattle.text.specs.Lines.{texts, line}
+use Rattle.records.specs.Sheets.{records, widget, widgets, checked}
+use Rattle.records.specs.declared.Record.{Record}
+use Rattle.records.specs.declared.Checked.{Checked}
+use Rattle.records.specs.declared.Checked.the-variants as checked-of
+use Rattle.sheet.specs.Pass.{Cell, Outcome, pass, passes}
+use Rattle.sheet.specs.PriceClause.{WholeCells, none, more}
+use Rattle.sheet.specs.Sheets.{ticks, inTicks}
+use Rattle.sheet.specs.Slices.{edges, eight}
+use Rattle.sheet.specs.Texts.{sheetIn}
+use Rattle.sheet.proofs.CallClause.{pass-all}
+use Rattle.sheet.proofs.Slices.{pass-few, room-there}
+use Rattle.sheet.proofs.TextTicks.{text-whole}
+use Rattle.sheet.proofs.WalkedPasses.{no-fault}
+use Rattle.sheet.proofs.WholeEdges.{whole-pass}
+use Rattle.listing.specs.Lists.{widgetLines, printed, acceptedLines, outcomeLines, memoryLines, answered, listOf}
+use Rattle.listing.proofs.Places.{all-controls}
+use Rattle.listing.proofs.Texts.{ticks-are}
+use Rattle.drawing.specs.Pieces.{fieldOf}
+use Rattle.drawing.specs.Shown.{Shows}
+use Rattle.drawing.proofs.OfPasses.{Other, counted, Split, split, widgetLine, field-read, widget-line, no-widget, one-less, none-less, some-left, no-lines, line-long}
+
+-- ---- whole ticks are small enough to be read
+tick-small : (x : Float) → Edge 5 x → natAbs (ticks 5 x) ≤ 9999999
+tick-small x e = let f : natAbs (e .steps) ≤ 2097152 = e .few in rw (ticks-are x e) (omega arith)
+
+edges-small : (r : Rect) → WholeRect 5 r → (zs : List ℤ) (i : ℕ) → i < 4 → natAbs (getD (edges (inTicks 5 r) ++ zs) i (pos 0)) ≤ 9999999
+edges-small r w zs zero h = tick-small (r .left) (w .left)
+edges-small r w zs (suc zero) h = tick-small (r .top) (w .top)
+edges-small r w zs (suc (suc zero)) h = tick-small (r .right) (w .right)
+edges-small r w zs (suc (suc (suc zero))) h = tick-small (r .bottom) (w .bottom)
+edges-small r w zs (suc (suc (suc (suc i)))) h = absurd (omega arith)
+
+eight-small : (c : Cell) → WholeRect 5 (c .frame) → WholeRect 5 (c .widget) → (i : ℕ) → i < 8 → natAbs (getD (eight c) i (pos 0)) ≤ 9999999
+eight-small c f w zero h = tick-small (c .frame .left) (f .left)
+eight-small c f w (suc zero) h = tick-small (c .frame .top) (f .top)
+eight-small c f w (suc (suc zero)) h = tick-small (c .frame .right) (f .right)
+eight-small c f w (suc (suc (suc zero))) h = tick-small (c .frame .bottom) (f .bottom)
+eight-small c f w (suc (suc (suc (suc i)))) h = edges-small (c .widget) w [] i (omega arith)
+
+whole-at : (before : List Cell) (c : Cell) (after : List Cell) → WholeCells 5 (before ++ (c ∷ after)) → WholeRect 5 (c .frame) × WholeRect 5 (c .widget)
+whole-at [] c after (more f w rest) = (f, w)
+whole-at (d ∷ before) c after (more f w rest) = whole-at before c after rest
+
+-- ---- how long the W lines are
+module _ (n : ℕ) (r : Record) (rs : List Record) (c : Cell) (cs : List Cell) where
+  long-step : (b : Bool) → eqb (widget r) 1 ≡ b → widgets (r ∷ rs) ≡ suc (length cs) → (widgets rs ≡ length cs → length (widgetLines (n + 1) rs cs) ≡ 74 * length cs)
+      → (widgets rs ≡ suc (length cs) → length (widgetLines (n + 1) rs (c ∷ cs)) ≡ 74 * suc (length cs)) → length (widgetLines n (r ∷ rs) (c ∷ cs)) ≡ 74 * suc (length cs)
+  long-step true e w f g = rw (widget-line n r rs c cs e) (omega (arith, length-append (widgetLine n c) (widgetLines (n + 1) rs cs), line-long 87 (pos n ∷ eight c), f (one-less r rs (length cs) e w)))
+  long-step false e w f g = rw (no-widget n r rs c cs e) (g (none-less r rs (suc (length cs)) e w))
+
+lines-long : (n : ℕ) (rs : List Record) (cs : List Cell) → widgets rs ≡ length cs → length (widgetLines n rs cs) ≡ 74 * length cs
+lines-long n rs [] w = ap length (no-lines n rs)
+lines-long n [] (c ∷ cs) w = absurd (some-left (length cs) w)
+lines-long n (r ∷ rs) (c ∷ cs) w =
+    long-step n r rs c cs (eqb (widget r) 1) refl w (λ (v : widgets rs ≡ length cs). lines-long (n + 1) rs cs v) (λ (v : widgets rs ≡ suc (length cs)). lines-long (n + 1) rs (c ∷ cs) v)
+
+-- ---- the lines of an accepted pass
+plate-next : (zs : List ℤ) (rest : List ℕ) → Other (line 80 zs ++ rest)
+unfolding line
+plate-next zs rest = record { first = 80; others = (texts zs ++ (10 ∷ [])) ++ rest; is = refl; no = λ (e : _≡_ {A = ℕ} 80 87). omega (arith, e) }
+
+split-there : (rs : List Record) (cs before : List Cell) (c : Cell) (after : List Cell) (tail : List ℕ) → cs ≡ before ++ (c ∷ after) → (p : Split 1 rs before c after)
+    → widgetLines 1 rs cs ++ tail ≡ p .front ++ (widgetLine (p .number) c ++ (p .back ++ tail))
+split-there rs cs before c after tail e p =
+    ap (λ (x : List Cell). widgetLines 1 rs x ++ tail) e
+    ∙ ap (λ (x : List ℕ). x ++ tail) (p .is)
+    ∙ append-assoc (p .front) (widgetLine (p .number) c ++ p .back) tail
+    ∙ ap (λ (x : List ℕ). p .front ++ x) (append-assoc (widgetLine (p .number) c) (p .back) tail)
+
+module _ (rs : List Record) (o : Outcome) (rest : List ℕ) (all : widgets rs ≡ length (o .cells)) (few : length (o .cells) ≤ 512) (whole : WholeCells 5 (o .cells)) (plate : WholeRect 5 (o .plate)) where
+  abbrev plateLine : List ℕ
+  plateLine = line 80 (edges (inTicks 5 (o .plate)))
+
+  abbrev drawn : List ℕ
+  drawn = widgetLines 1 rs (o .cells) ++ (plateLine ++ rest)
+
+  cell-shown : (before after : List Cell) (c : Cell) → o .cells ≡ before ++ (c ∷ after) → (i : ℕ) → i < 8 → fieldOf drawn (74 * length before) (1 + i) ≡ getD (eight c) i (pos 0)
+  cell-shown before after c e i h =
+      let p = split 1 rs before c after (all ∙ ap length e) in
+      let v = whole-at before c after (subst (WholeCells 5) e whole) in
+      let f : 1 + i ≡ suc i = omega arith in
+      let s = split-there rs (o .cells) before c after (plateLine ++ rest) e p in
+      rw (s, ← p .at, f) (field-read (p .front) (p .back ++ (plateLine ++ rest)) 87 (pos (p .number) ∷ eight c) (suc i) (eight-small c (v .0) (v .1) i h) (omega arith))
+
+  plate-shown : (i : ℕ) → i < 4 → fieldOf drawn (74 * length (o .cells)) i ≡ getD (edges (inTicks 5 (o .plate))) i (pos 0)
+  plate-shown i h = rw (← lines-long 1 rs (o .cells) all) (field-read (widgetLines 1 rs (o .cells)) rest 80 (edges (inTicks 5 (o .plate))) i (edges-small (o .plate) plate [] i h) h)
+
+  pub shows : Shows drawn o
+  shows = record {
+    controls = counted 512 1 rs (o .cells) [] (plateLine ++ rest) all few (plate-next _ rest);
+    cells = cell-shown;
+    plate = plate-shown;
+  }
+
+-- ---- what is drawn of a text
+module _ (text : List ℕ) (r w : ℕ) (e : checked text 4096 ≡ checked-of.Accepted r w) where
+  pass-shown : (known : Bool) (m : Memory) (sizing : Bool) (rest : List ℕ) → pass 5 (sheetIn text) known m sizing .number ≡ 0
+      → Shows (widgetLines 1 (records text) (pass 5 (sheetIn text) known m sizing .cells) ++ (line 80 (edges (inTicks 5 (pass 5 (sheetIn text) known m sizing .plate))) ++ rest)) (pass 5 (sheetIn text) known m sizing)
+  pass-shown known m sizing rest z =
+      let a = all-controls text (no-fault text 4096 r w e) in
+      let b = pass-all 5 (sheetIn text) known m sizing z in
+      let d = pass-few 5 (sheetIn text) known m sizing in
+      let t = room-there text 4096 r w e in
+      let v = whole-pass 5 (omega arith) (sheetIn text) (text-whole text) known m sizing z in
+      shows (records text) (pass 5 (sheetIn text) known m sizing) rest (omega (arith, a, b, d)) (omega (arith, a, d, t)) (v .cells) (v .plate)
+
+  list-is : printed (sheetIn text) .number ≡ 0 → listOf text ≡ acceptedLines (sheetIn text .«has_grid») (records text) (printed (sheetIn text))
+  unfolding listOf answered outcomeLines
+  list-is z = rw (e, eq-eqb (printed (sheetIn text) .number) 0 z)
+
+  which-shown : (b : Bool) → eqb (passes 5 (sheetIn text) 0 .number) 0 && sheetIn text .«has_grid» ≡ b → printed (sheetIn text) .number ≡ 0
+      → Shows (acceptedLines (sheetIn text .«has_grid») (records text) (printed (sheetIn text))) (printed (sheetIn text))
+  unfolding printed passes acceptedLines
+  which-shown true h z = rw h (pass-shown true _ false _ (rw h at z))
+  which-shown false h z = rw h (pass-shown false emptyMemory true _ (rw h at z))
+
+  pub drawing-shows : printed (sheetIn text) .number ≡ 0 → Shows (listOf text) (printed (sheetIn text))
+  drawing-shows z = subst (λ (s : List ℕ). Shows s (printed (sheetIn text))) (sym (list-is z)) (which-shown _ refl z)

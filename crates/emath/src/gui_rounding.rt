@@ -8,6 +8,9 @@ ghost use Rattle.emath.specs.Rectangles.{roundF, roundBy, roundUi, round
 use crate::Rect;
 use crate::TICKS_PER_POINT;
 
+// 2^23 and half of it.
+const SHIFT: f32 = 12582912.0;
+
 // The nearest whole number of a y above 0 and below 2^23. Twice y is exact, where y + 0.5 would round: 0.49999997 to 1.
 fn near(y: f32) -> f32
     requires { ⌜ T (lt (fin false 0 (pos 0)) y) ⌝ }
@@ -18,8 +21,8 @@ fn near(y: f32) -> f32
     n as f32
 }
 
-// The nearest whole number, halves away from zero. From 2^23 on every f32 is whole.
-pub fn round(y: f32) -> f32
+// For every y. From 2^23 on every f32 is whole.
+fn near_any(y: f32) -> f32
     ensures { λ r. ⌜ r ≡ roundF y ⌝ }
 {
     if y < 8388608.0 {
@@ -37,6 +40,18 @@ pub fn round(y: f32) -> f32
     } else {
         y
     }
+}
+
+// The nearest whole number, halves away from zero. Most are whole already: they come back from where every f32 is.
+pub fn round(y: f32) -> f32
+    ensures { λ r. ⌜ r ≡ roundF y ⌝ }
+{
+    let far = y + SHIFT;
+    let back = far - SHIFT;
+    if (8388608.0 <= far) & (back == y) {
+        return back;
+    }
+    near_any(y)
 }
 
 // To whole steps, of which a point has `per`.

@@ -1,0 +1,24 @@
+-- `sheet::passing::pass_keeping` meets its contract. Assumes nothing.
+use mathlib.Core.Path.{refl, sym, _∙_}
+use Rattle.sheet.specs.Passing.{passIn, fromCheck}
+use Rattle.sheet.proofs.Slices.{room-after}
+use borrow.Author.Needs.{needs}
+use Rattle.sheet.proofs.passing.pass_keeping.Statement.{statement}
+use Rattle.sheet.proofs.passing.pass_keeping.Tie as tie
+
+from-record-requires : tie.Need-from-record-requires
+from-record-requires c κs =
+    let checked = c .before .before .before .before .before .before .before .check-keeping in
+    let accepted = c .before .before .before .enum-told .given .1 in
+    room-after _ _ _ _ _ (checked .kept .1 .1 .0 ∙ c .before .before .before .before .before .before .before .before .before .before .before .pre) (checked .ensures .1 _ _ accepted) (sym (checked .ensures .0) ∙ accepted)
+
+returns : tie.Need-returns
+unfolding passIn fromCheck
+returns c = rw (← c .before .before .before .before .before .before .before .before .before .check-keeping .ensures .0, c .before .before .before .before .before .enum-told .given .1, ← c .before .before .before .before .read-record .ensures) (c .before .from-record .ensures)
+
+returns-2 : tie.Need-returns-2
+unfolding passIn fromCheck
+returns-2 c = rw (← c .before .before .before .before .before .before .check-keeping .ensures .0, c .before .before .number .given .1, c .refused .ensures) (refl, refl)
+
+pub pass-keeping-spec : {M : Type 1} → statement M
+pass-keeping-spec = tie.close (tie.spec (λ c κs. search needs) (λ c. search needs) (λ c κs. search needs) from-record-requires (λ c. search needs) (λ c κs. search needs) (λ c. search needs) (λ c. search needs) returns (λ c. search needs) returns-2)

@@ -189,7 +189,8 @@ fn magnitude(z: i32) -> u32
     z as u32
 }
 
-fn put_signed(out: &mut [u8], at: usize, z: i32)
+// Writes a number that has a text.
+pub(crate) fn put_signed(out: &mut [u8], at: usize, z: i32)
     requires { ⌜ (at + 8 ≤ length (now out)) × (natAbs z < 100000000) ⌝ }
     ensures { λ _. ⌜ now (out .exit) ≡ sets (now (out .entry)) at (columns (negative z) (natAbs z) 8) ⌝ }
 {

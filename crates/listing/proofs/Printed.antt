@@ -8,6 +8,7 @@ use lib.Dec.{eqb}
 use lib.IntN.{ℤ}
 use lib.ListN.{length}
 use lib.Seq.{sets, length-sets}
+use lib.Ieee.{Float}
 use borrow.Author.Tests.{eq-eqb, ne-eqb}
 use Rattle.layout.specs.Steps.{WholeRect}
 use Rattle.grid.specs.Memories.{emptyMemory}
@@ -20,6 +21,7 @@ use Rattle.sheet.specs.Pass.{Outcome, pass, passes}
 use Rattle.sheet.specs.Sheets.{inTicks}
 use Rattle.sheet.specs.Texts.{sheetIn}
 use Rattle.sheet.specs.Slices.{edges, laidOf, judged, laid}
+use Rattle.sheet.specs.Passing.{Room, Known}
 use Rattle.sheet.specs.CallClause.{Called}
 use Rattle.sheet.specs.declared.Laid.{Laid}
 use Rattle.sheet.specs.declared.Laid.the-variants.{Accepted, Refused}
@@ -208,6 +210,9 @@ module _ (text : List ℕ) (out between : List ℤ) (p : Passed) (full : length 
     pub grid : sheetIn text .«has_grid» ≡ true
     pub number : passes 5 (sheetIn text) 0 .number ≡ 0
     pub memory : p .memory ≡ passes 5 (sheetIn text) 0 .memory
+    pub all : ℕ
+    pub few : ℕ
+    pub accepted : checked text 4096 ≡ checked-of.Accepted all few
 
   accepted-laid : (l : Laid) (b : Bool) → isAccepted l && b ≡ true → (l ≡ Accepted) × (b ≡ true)
   unfolding isAccepted
@@ -226,7 +231,19 @@ module _ (text : List ℕ) (out between : List ℤ) (p : Passed) (full : length 
 
       go : (k : Checked) → checked text 4096 ≡ k → Again
       go (checked-of.Refused n at) e = absurd (omega (arith, no-number n at (sym (laid-by (checked-of.Refused n at) e) ∙ l), some-number text 4096 n at e))
-      go (checked-of.Accepted r w) e = record { grid = sym (grid-there text (no-fault text 4096 r w e)) ∙ accepted-laid (p .laid) (hasGrid text) h .1; number = s .number; memory = s .memory }
+      go (checked-of.Accepted r w) e = record { grid = sym (grid-there text (no-fault text 4096 r w e)) ∙ accepted-laid (p .laid) (hasGrid text) h .1; number = s .number; memory = s .memory; all = r; few = w; accepted = e }
+
+  -- it needs no second check
+  pub known-again : (sizes : List Float) → length between ≡ 4096 → isAccepted (p .laid) && hasGrid text ≡ true → ((r w : ℕ) → checked text (length out) ≡ checked-of.Accepted r w → Room text (length out) sizes)
+      → Known text (length between) sizes
+  known-again sizes kept h f =
+      let a = again h in
+      record {
+        all = a .all;
+        few = a .few;
+        accepted = ap (λ (n : ℕ). checked text n) kept ∙ a .accepted;
+        kept = subst (λ (n : ℕ). Room text n sizes) (full ∙ sym kept) (f (a .all) (a .few) (ap (λ (n : ℕ). checked text n) full ∙ a .accepted));
+      }
 
   module _ (exit : List ℤ) (q : Passed) (kept : length between ≡ 4096) (d : Called text true (p .memory) false between q exit) (h : isAccepted (p .laid) && hasGrid text ≡ true) where
     with-first : Called text true (passes 5 (sheetIn text) 0 .memory) false between q exit

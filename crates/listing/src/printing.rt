@@ -8,12 +8,14 @@ use crate::lines::put_widgets;
 use emath::Rect;
 use grid::Memory;
 use grid::memories::empty_memory;
+use records::KEPT;
 use records::Record;
 use records::records::next_record;
 use records::records::read_record;
 use sheet::Laid;
 use sheet::Passed;
-use sheet::passing::pass;
+use sheet::passing::pass_again;
+use sheet::passing::pass_keeping;
 ghost use mathlib.Core.Path.{_≡_};
 ghost use Prim.Native.Nat.{_≤_, _<_};
 ghost use Rattle.layout.specs.Steps.{WholeRect};
@@ -77,12 +79,13 @@ pub fn print(text: &[u8], out: &mut [u8; MAX_LIST]) -> usize
     ensures { λ n. ⌜ ((n, now (out .exit)) ≡ listIn (now (out .entry)) (now (text .entry))) × (n ≤ 40802) ⌝ }
 {
     let mut cells: [i32; PLACES] = [0; PLACES];
+    let mut sizes: [f32; KEPT] = [0.0; KEPT];
     let none = empty_memory();
-    let first = pass(text, false, none, true, &mut cells);
+    let first = pass_keeping(text, &mut sizes, false, none, true, &mut cells);
     let laid = first.laid;
     if is_accepted(laid) & has_grid(text) {
         let memory = first.memory;
-        let second = pass(text, true, memory, false, &mut cells);
+        let second = pass_again(text, &sizes, true, memory, false, &mut cells);
         return put_passed(out, text, &cells, second);
     }
     put_passed(out, text, &cells, first)

@@ -33,6 +33,13 @@ pub record Room (text : List ℕ) (room : ℕ) (sizes : List Float) : Type 0 whe
   pub kept : Kept 511 (drop (nextAt text 0) text) sizes 2
   pub kept-grid : Kept 510 (drop (nextAt text (nextAt text 0)) text) sizes 3
 
+-- the text was checked, and nothing turned back
+pub record Known (text : List ℕ) (room : ℕ) (sizes : List Float) : Type 0 where
+  pub all : ℕ
+  pub few : ℕ
+  pub accepted : checked text room ≡ checked-of.Accepted all few
+  pub kept : Room text room sizes
+
 abbrev pub ranOf : Run → Ran
 ranOf r = record { number = r .number; at = r .at; cells = []; placer = r .placer }
 

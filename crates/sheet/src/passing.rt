@@ -27,14 +27,15 @@ use records::records::read_record;
 use records::sheets::check_keeping;
 ghost use mathlib.Core.Path.{_≡_};
 ghost use mathlib.Core.List.{[]};
-ghost use Prim.Native.Nat.{_+_, _*_, _≤_};
+ghost use Prim.Native.Nat.{ℕ, _+_, _*_, _≤_};
 ghost use lib.ListN.{length, drop};
 ghost use Rattle.placer.specs.Refusals.{placerFault};
 ghost use Rattle.records.specs.Records.{nextAt};
-ghost use Rattle.records.specs.Sheets.{recordsFrom, widgets};
+ghost use Rattle.records.specs.Sheets.{recordsFrom, widgets, checked};
+ghost use Rattle.records.specs.declared.Checked.the-variants.{Accepted};
 ghost use Rattle.records.specs.Keeping.{Kept};
 ghost use Rattle.sheet.specs.Pass.{refusedAt, outcomeOf, gridded as griddedBy};
-ghost use Rattle.sheet.specs.Passing.{ranOf, Room, goneOn, plainOn, gridOn, afterHead, fromHeading, fromRecord, passIn};
+ghost use Rattle.sheet.specs.Passing.{ranOf, Room, goneOn, plainOn, gridOn, afterHead, fromHeading, fromRecord, Known};
 ghost use Rattle.sheet.specs.Walks.{runOf};
 ghost use Rattle.sheet.specs.Slices.{laidOf, passedOf, laid};
 
@@ -331,8 +332,31 @@ fn from_record(
     }
 }
 
-// The check first, which keeps in `sizes` what each W says.
-fn pass_keeping(
+// A pass over a text that was checked before, with what each W says in `sizes`.
+pub fn pass_again(
+    text: &[u8],
+    sizes: &[f32],
+    known: bool,
+    memory: Memory,
+    sizing: bool,
+    out: &mut [i32],
+) -> Passed
+    requires { ⌜ Known (now text) (length (now out)) (now sizes) ⌝ }
+    ensures { λ p. ⌜ (p ≡ passedOf (laid (now (text .entry)) known memory sizing (now (out .entry)) .outcome)) × (now (out .exit) ≡ laid (now (text .entry)) known memory sizing (now (out .entry)) .slice) ⌝ }
+{
+    from_record(
+        read_record(text, 0),
+        text,
+        sizes,
+        known,
+        memory,
+        sizing,
+        out,
+    )
+}
+
+// As `pass`; the check, which comes first, keeps in `sizes` what each W says.
+pub fn pass_keeping(
     text: &[u8],
     sizes: &mut [f32],
     known: bool,
@@ -341,7 +365,7 @@ fn pass_keeping(
     out: &mut [i32],
 ) -> Passed
     requires { ⌜ length (now sizes) ≡ 1026 ⌝ }
-    ensures { λ p. ⌜ (p ≡ passIn (now (text .entry)) known memory sizing (now (out .entry)) .passed) × (now (out .exit) ≡ passIn (now (text .entry)) known memory sizing (now (out .entry)) .slice) ⌝ }
+    ensures { λ p. ⌜ (p ≡ passedOf (laid (now (text .entry)) known memory sizing (now (out .entry)) .outcome)) × (now (out .exit) ≡ laid (now (text .entry)) known memory sizing (now (out .entry)) .slice) × ((r w : ℕ) → checked (now (text .entry)) (length (now (out .entry))) ≡ Accepted r w → Room (now (text .entry)) (length (now (out .entry))) (now (sizes .exit))) ⌝ }
 {
     let room = out.len();
     match check_keeping(text, room, sizes) {

@@ -1,11 +1,10 @@
 -- `sheet::passing::pass` meets its contract. Assumes nothing.
-use Rattle.sheet.proofs.WalkedPasses.{as-laid}
 use borrow.Author.Needs.{needs}
 use Rattle.sheet.proofs.passing.pass.Statement.{statement}
 use Rattle.sheet.proofs.passing.pass.Tie as tie
 
 returns : tie.Need-returns
-returns c = as-laid _ _ _ _ _ _ _ (c .before .before .pass-keeping .ensures)
+returns c = (c .before .before .pass-keeping .ensures .0, c .before .before .pass-keeping .ensures .1)
 
 pub pass-spec : {M : Type 1} → statement M
 pass-spec = tie.close (tie.spec (λ c. search needs) (λ c κs. search needs) (λ c. search needs) returns)

@@ -4,14 +4,16 @@ use mathlib.Core.Path.{_≡_, refl, sym, ap, _∙_}
 use mathlib.Core.Logic.{inl, inr}
 use Prim.Native.Nat.{ℕ, suc, _+_, _*_, _^_, _≤_, _<_}
 use native.Mathlib.Omega.{arith}
-use mathlib.Core.Bool.{Bool, true, false, not, _||_, Bool·beq}
+use mathlib.Core.Bool.{Bool, true, false, not, _&&_, _||_, Bool·beq}
 use lib.Dec.{T, leb, leb→le, nleb→lt, le→leb, eqb, eqb→eq, lit<}
 use lib.IntN.{ℤ, pos, negsuc, natAbs, _-ℤ_}
 use lib.Ieee.{Float, nan, inf, fin, binary32, up, down, round, add, sub, neg, lt, le, eq, fits}
 use lib.Ieee.Fits.{down-pos, and-l, and-r, round-fits, add-fits}
-use Rattle.emath.specs.Rectangles.{nearUp, roundF}
+use Rattle.emath.specs.Rectangles.{nearUp, roundF, roundUi, roundRect}
+use Rattle.emath.specs.declared.Rect.{Rect}
+use Rattle.emath.specs.Shifting.{shift, backInTicks, backRect}
 use Rattle.emath.specs.Steps.{sgn, signed, val}
-use Rattle.emath.proofs.Tests.{or-split}
+use Rattle.emath.proofs.Tests.{or-split, is-yes}
 use Rattle.emath.proofs.Whole.{more, less, diff, within-natAbs}
 use Rattle.emath.proofs.Exact.{Small, val-is, sub-is}
 use Rattle.emath.proofs.Order.{factor-zero, val-mono, before}
@@ -20,12 +22,13 @@ use Rattle.emath.proofs.NearUp.{nearUp-same, nearUp-le, near-whole}
 use Rattle.emath.proofs.Rounding.{whole-at, signed-back, fits-says}
 use Rattle.emath.proofs.NearestWhole.{from-high, too-many, two-le}
 
--- 2 ^ 23, and what is added
+-- 2 ^ 23
 abbrev pub least : Float
 least = fin false 1 (pos 23)
 
-abbrev pub shift : Float
-shift = fin false 3 (pos 22)
+both-true : (a b : Bool) → a && b ≡ true → (a ≡ true) × (b ≡ true)
+both-true true b h = (refl, h)
+both-true false b h = absurd (is-yes false h)
 
 -- ---- floats that equal each other have one nearest whole number
 same-sign : (s t : Bool) → T (Bool·beq s t) → s ≡ t
@@ -102,3 +105,14 @@ whole-less (fin false m (pos j)) f h =
 -- ---- THE LAW
 pub shifted-back : (y : Float) → T (le least (add binary32 y shift)) → T (eq (sub binary32 (add binary32 y shift) shift) y) → sub binary32 (add binary32 y shift) shift ≡ roundF y
 shifted-back y h e = sym (whole-less (add binary32 y shift) (add-fits binary32 y shift) h) ∙ round-equal (sub binary32 (add binary32 y shift) shift) y e
+
+-- ---- four edges
+module _ (r : Rect) (a b c d : Bool) (ea : a ≡ true → backInTicks (r .left) ≡ roundUi 5 (r .left)) (eb : b ≡ true → backInTicks (r .top) ≡ roundUi 5 (r .top))
+    (ec : c ≡ true → backInTicks (r .right) ≡ roundUi 5 (r .right)) (ed : d ≡ true → backInTicks (r .bottom) ≡ roundUi 5 (r .bottom)) where
+  pub all-back : a && (b && (c && d)) ≡ true → backRect r ≡ roundRect 5 r
+  unfolding roundRect
+  all-back h =
+      let p = both-true a (b && (c && d)) h in
+      let q = both-true b (c && d) (p .1) in
+      let t = both-true c d (q .1) in
+      rw (ea (p .0), eb (q .0), ec (t .0), ed (t .1))

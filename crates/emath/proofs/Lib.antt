@@ -11,6 +11,7 @@ pub mod MinMax
 pub mod NearUp
 pub mod Rounding
 pub mod NearestWhole
+pub mod Shifted
 pub mod Unique
 pub mod RoundOrder
 pub mod Edges

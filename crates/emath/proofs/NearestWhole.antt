@@ -120,10 +120,10 @@ own-whole s m j f =
     (round-exact binary32 s (m * 2 ^ j) 1 m (j + 149) (lit< tt) (g .0) (rw e (mul-lt-mul-of-pos-right (g .1) (pow-pos 149))) (sym e ∙ sym (mul-one (m * 2 ^ (j + 149)))))
     (refl, refl)
 
-two-le : (j : ℕ) → 2 ≤ 2 ^ suc j
+pub two-le : (j : ℕ) → 2 ≤ 2 ^ suc j
 two-le j = pow-mono {i = 1} {j = suc j} (omega arith)
 
-too-many : (m P : ℕ) → m < 2 ^ 24 → 2 ≤ P → 1 * 2 ^ 23 * P ≤ m * 1 * 1 → ⊥
+pub too-many : (m P : ℕ) → m < 2 ^ 24 → 2 ≤ P → 1 * 2 ^ 23 * P ≤ m * 1 * 1 → ⊥
 too-many m P a b c = omega arith
 
 -- from 2 ^ 23 on a finite value is whole

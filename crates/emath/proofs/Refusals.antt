@@ -10,8 +10,8 @@ use lib.Ieee.{Float, nan, inf, fin, binary32, ofBits, up, down, round, sum, add,
 use lib.Ieee.Fits.{down-pos}
 use lib.Ieee.Scale.{round-same}
 use Rattle.emath.specs.Rectangles.{zeroF}
-use Rattle.emath.specs.Domain.{finite, within, edgesOf, insideOut}
-use Rattle.emath.specs.Refusals.{when, lesser, least, orElse, edgesFault, rectFault, outside, frameFault}
+use Rattle.emath.specs.Domain.{finite, within, bothOf, edgesOf, insideOut}
+use Rattle.emath.specs.Refusals.{when, lesser, least, orElse, lengthFault, pairFault, edgesFault, rectFault, outside, frameFault}
 use Rattle.emath.proofs.Tests.{bools, not-lt, T-of}
 use Rattle.emath.specs.declared.Rect.{Rect}
 
@@ -78,6 +78,14 @@ no-fault r h =
     let b = both (within (r .top)) (within (r .right) && within (r .bottom)) (a .1) in
     let d = both (within (r .right)) (within (r .bottom)) (b .1) in
     rw (a .0, b .0, d .0, d .1, within-finite (r .left) (a .0), within-finite (r .top) (b .0), within-finite (r .right) (d .0), within-finite (r .bottom) (d .1))
+
+pub length-quick : (x : Float) → within x ≡ true → 0 ≡ lengthFault x
+unfolding lengthFault least lesser
+length-quick x h = rw (h, within-finite x h)
+
+pub pair-quick : (x y : Float) → bothOf within x y ≡ true → 0 ≡ pairFault x y
+unfolding pairFault least lesser bothOf
+pair-quick x y h = let a = both (within x) (within y) h in rw (a .0, a .1, within-finite x (a .0), within-finite y (a .1))
 
 -- ---- what no fault says
 pub outside-none : (n : ℕ) → outside n ≡ 0 → n ≡ 0

@@ -141,7 +141,7 @@ half-step k K s m e t h = record {
 pub val-round : (k i : ℕ) (z : ℤ) → i + k ≤ 149 → Small z → roundUi k (val (i + k) z) ≡ val k (roundZ i z)
 val-round k i z l h = round-at k i (val (i + k) z) (sgn z) (natAbs z) l (natAbs-within h) (val-is (i + k) z l h)
 
-signed-back : (z : ℤ) → signed (sgn z) (natAbs z) ≡ z
+pub signed-back : (z : ℤ) → signed (sgn z) (natAbs z) ≡ z
 signed-back (pos n) = refl
 signed-back (negsuc n) = refl
 

@@ -3,3 +3,4 @@ pub mod Rectangles
 pub mod Domain
 pub mod Refusals
 pub mod Steps
+pub mod Shifting

@@ -32,10 +32,14 @@ pub fn or_else(n: u8, m: u8) -> u8
     if n == 0 { m } else { n }
 }
 
+// What is within the limit is finite: here and below most calls end at the first test.
 pub fn length_fault(x: f32) -> u8
     ensures { λ n. ⌜ n ≡ lengthFault x ⌝ }
 {
-    lesser_number(number_when(!is_finite(x), 4), number_when(!is_within(x), 5))
+    if is_within(x) {
+        return 0;
+    }
+    lesser_number(number_when(!is_finite(x), 4), 5)
 }
 
 // Of a maximum width or height, say, which is not negative.
@@ -48,10 +52,10 @@ pub fn extent_fault(x: f32) -> u8
 pub fn pair_fault(x: f32, y: f32) -> u8
     ensures { λ n. ⌜ n ≡ pairFault x y ⌝ }
 {
-    lesser_number(
-        number_when(!both_finite(x, y), 4),
-        number_when(!both_within(x, y), 5),
-    )
+    if both_within(x, y) {
+        return 0;
+    }
+    lesser_number(number_when(!both_finite(x, y), 4), 5)
 }
 
 pub fn size_fault(v: Vec2) -> u8
@@ -60,7 +64,6 @@ pub fn size_fault(v: Vec2) -> u8
     lesser_number(pair_fault(v.x, v.y), number_when(v.is_negative(), 6))
 }
 
-// Edges within the limit are finite: most calls end at the first test.
 pub fn edges_fault(r: Rect) -> u8
     ensures { λ n. ⌜ n ≡ edgesFault r ⌝ }
 {

@@ -194,7 +194,7 @@ pub fn align_size_within_rect(size: Vec2, frame: Rect) -> Rect
     ensures { λ r. ⌜ r ≡ alignSizeWithinRect 5 size frame ⌝ }
 {
     let a = Align2::LEFT_CENTER;
-    a.align_size_within_rect(size, frame).round_ui()
+    a.align_size_within_rect(size, frame).round_ui_quickly()
 }
 
 // Where the grid has no room nothing changes.

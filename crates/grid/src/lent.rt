@@ -123,7 +123,7 @@ pub fn next_cell(
         x: cursor.left,
         y: cursor.top,
     };
-    Rect::from_min_size(min, size).round_ui()
+    Rect::from_min_size(min, size).round_ui_quickly()
 }
 
 // The entries that an advance leaves at its column and its row.

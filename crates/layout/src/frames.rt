@@ -12,7 +12,8 @@ use emath::Vec2;
 use emath::num::infinity;
 use emath::num::max;
 ghost use mathlib.Core.Path.{_≡_};
-ghost use Rattle.layout.specs.Rules.{overflows, newRow, newColumn, newCursor, reaching, newRegion, wraps, nextFrame, fillsWidth, fillsHeight, frameWidth, frameHeight, frameAlign2, movedDown, frameRect, nextFrameIgnoreWrap};
+ghost use mathlib.Core.Bool.{_&&_};
+ghost use Rattle.layout.specs.Rules.{overflows, newRow, newColumn, newCursor, reaching, newRegion, nextFrame, fillsWidth, fillsHeight, frameWidth, frameHeight, frameAlign2, movedDown, frameRect, nextFrameIgnoreWrap};
 
 // The child is longer than what is left, and the cursor is past the starting edge.
 fn overflows_main(main_dir: Direction, available: Rect, region: Region, child_size: Vec2) -> bool
@@ -112,22 +113,25 @@ fn new_region(main_dir: Direction, region: Region, child_size: Vec2, spacing: Ve
     g
 }
 
-fn is_wrapping(layout: Layout, region: Region, child_size: Vec2) -> bool
-    ensures { λ b. ⌜ b ≡ wraps layout region «child_size» ⌝ }
+// The child is too long for what is left, in a layout that wraps.
+fn is_wrapping(layout: Layout, available: Rect, region: Region, child_size: Vec2) -> bool
+    ensures { λ b. ⌜ b ≡ layout .«main_wrap» && overflows (layout .«main_dir») available region «child_size» ⌝ }
 {
     let d = layout.main_dir;
-    layout.main_wrap & overflows_main(d, available_rect_before_wrap(d, region), region, child_size)
+    layout.main_wrap & overflows_main(d, available, region, child_size)
 }
 
+// What is left is worked out once, where nothing wraps.
 pub fn next_frame(layout: Layout, region: Region, child_size: Vec2, spacing: Vec2) -> Rect
     ensures { λ r. ⌜ r ≡ nextFrame 5 layout region «child_size» spacing ⌝ }
 {
     let d = layout.main_dir;
-    if is_wrapping(layout, region, child_size) {
+    let available = available_rect_before_wrap(d, region);
+    if is_wrapping(layout, available, region, child_size) {
         let g = new_region(d, region, child_size, spacing);
         next_frame_ignore_wrap(layout, g, child_size)
     } else {
-        next_frame_ignore_wrap(layout, region, child_size)
+        frame_rect(layout, region.cursor, available, child_size).round_ui()
     }
 }
 

@@ -1,7 +1,7 @@
 -- What `settle` gives is what the list is printed from: it goes on to a second pass exactly where the rule does, and what it gives can be
 -- printed. Assumes nothing.
 use Prim.Native.Nat.{ℕ, _<_}
-use mathlib.Core.Path.{_≡_, refl, ap, sym, _∙_}
+use mathlib.Core.Path.{_≡_, refl, ap, sym, _∙_, subst}
 use mathlib.Core.Bool.{Bool, true, false, cond, _&&_}
 use mathlib.Core.List.{List, []}
 use native.Mathlib.Omega.{arith}
@@ -9,6 +9,7 @@ use lib.Dec.{eqb}
 use lib.IntN.{ℤ}
 use lib.ListN.{length}
 use lib.Seq.{length-sets}
+use lib.Ieee.{Float}
 use borrow.Author.Tests.{eqb-true, ne-eqb}
 use Rattle.grid.specs.Memories.{emptyMemory}
 use Rattle.grid.specs.declared.Memory.{Memory}
@@ -18,9 +19,10 @@ use Rattle.records.specs.declared.Checked.the-variants as checked-of
 use Rattle.sheet.specs.Pass.{Outcome, refusedAt, pass, passes}
 use Rattle.sheet.specs.Texts.{sheetIn}
 use Rattle.sheet.specs.Slices.{LaidOut, written, laidOf, passedOf, judged, laid}
+use Rattle.sheet.specs.Passing.{Room, Known}
 use Rattle.sheet.specs.CallClause.{Called}
 use Rattle.sheet.specs.declared.Passed.{Passed}
-use Rattle.sheet.proofs.WalkedPasses.{no-fault}
+use Rattle.sheet.proofs.WalkedPasses.{no-such, no-fault}
 use Rattle.sheet.proofs.CallClause.{some-number}
 use Rattle.listing.specs.Lists.{printed, settledFrom, settled, listOf}
 use Rattle.listing.specs.Putting.{Put, isAccepted, hasGrid, Printable, putPassed, numberOf}
@@ -67,6 +69,23 @@ module _ (text : List ℕ) (out : List ℤ) where
   module _ (p : Passed) (between : List ℤ) (c : Called text false emptyMemory true out p between) where
     of-first : (b : Bool) → isAccepted (p .laid) && hasGrid text ≡ b → settled text out ≡ cond b (laid text true (first .outcome .memory) false (first .slice)) first
     of-first b h = by-code b (ap (λ (x : Passed). isAccepted (x .laid) && hasGrid text) (sym (c .answer)) ∙ h)
+
+    accepted-first : isAccepted (p .laid) && hasGrid text ≡ true → first .outcome .number ≡ 0
+    accepted-first h = go (eqb (first .outcome .number) 0) refl (ap (λ (b : Bool). b && hasGrid text) (sym (accepted-is (first .outcome .number) (first .outcome .at))) ∙ ap (λ (x : Passed). isAccepted (x .laid) && hasGrid text) (sym (c .answer)) ∙ h)
+      where
+        go : (b : Bool) → eqb (first .outcome .number) 0 ≡ b → b && hasGrid text ≡ true → first .outcome .number ≡ 0
+        go true e f = eqb-true (first .outcome .number) 0 e
+        go false e f = no-such f
+
+    -- a second pass needs no second check
+    pub known-again : (sizes : List Float) → length between ≡ length out → isAccepted (p .laid) && hasGrid text ≡ true
+        → ((r w : ℕ) → checked text (length out) ≡ checked-of.Accepted r w → Room text (length out) sizes) → Known text (length between) sizes
+    unfolding laid judged
+    known-again sizes kept h f = go (checked text (length out)) refl (accepted-first h)
+      where
+        go : (k : Checked) → checked text (length out) ≡ k → judged k text false emptyMemory true out .outcome .number ≡ 0 → Known text (length between) sizes
+        go (checked-of.Refused n at) e z = absurd (omega (arith, z, some-number text (length out) n at e))
+        go (checked-of.Accepted r w) e z = record { all = r; few = w; accepted = ap (λ (n : ℕ). checked text n) kept ∙ e; kept = subst (λ (n : ℕ). Room text n sizes) (sym kept) (f r w e) }
 
     pub once : isAccepted (p .laid) && hasGrid text ≡ false → (p ≡ passedOf (settled text out .outcome)) × (between ≡ settled text out .slice)
     once h =

@@ -8,12 +8,14 @@ use crate::lines::put_widgets;
 use emath::Rect;
 use grid::Memory;
 use grid::memories::empty_memory;
+use records::KEPT;
 use records::Record;
 use records::records::next_record;
 use records::records::read_record;
 use sheet::Laid;
 use sheet::Passed;
-use sheet::passing::pass;
+use sheet::passing::pass_again;
+use sheet::passing::pass_keeping;
 ghost use mathlib.Core.Path.{_≡_};
 ghost use Prim.Native.Nat.{_≤_, _<_};
 ghost use Rattle.layout.specs.Steps.{WholeRect};
@@ -77,12 +79,13 @@ fn put_passed(out: &mut [u8], text: &[u8], cells: &[i32], p: Passed) -> usize
 pub fn settle(text: &[u8], cells: &mut [i32]) -> Passed
     ensures { λ p. ⌜ (p ≡ passedOf (settled (now (text .entry)) (now (cells .entry)) .outcome)) × (now (cells .exit) ≡ settled (now (text .entry)) (now (cells .entry)) .slice) ⌝ }
 {
+    let mut sizes: [f32; KEPT] = [0.0; KEPT];
     let none = empty_memory();
-    let first = pass(text, false, none, true, cells);
+    let first = pass_keeping(text, &mut sizes, false, none, true, cells);
     let laid = first.laid;
     if is_accepted(laid) & has_grid(text) {
         let memory = first.memory;
-        return pass(text, true, memory, false, cells);
+        return pass_again(text, &sizes, true, memory, false, cells);
     }
     first
 }

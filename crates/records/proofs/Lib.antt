@@ -3,3 +3,4 @@ pub mod Lengths
 pub mod Places
 pub mod Reached
 pub mod Prefixes
+pub mod Keeping

@@ -21,7 +21,7 @@ unfolding recordAt
 there s at r e = e ∙ ap (λ (t : List ℕ). recordOf t) (take-all (length s - at) (drop at s) (omega (arith, length-drop at s)))
 
 -- ---- next_record
-letter-at : (s : List ℕ) (at : ℕ) → letter (drop at s) ≡ getD s at 0
+pub letter-at : (s : List ℕ) (at : ℕ) → letter (drop at s) ≡ getD s at 0
 letter-at s at = getD-drop at s 0 0 ∙ ap (λ (i : ℕ). getD s i 0) (add-zero at)
 
 pub next-beyond : (s : List ℕ) (at : ℕ) → length s < at → length s ≡ nextAt s at

@@ -58,11 +58,11 @@ records-step left s at more here =
     let l : 0 < length (drop at s) = omega (arith, length-drop at s) in
     first-of left (drop at s) more l ∙ rw (next-is-rest s at)
 
-placed-on : (k : ℕ) (r : Record) (rs : List Record) (m : ℕ) → placed k r ≡ true → misplaced k (r ∷ rs) ≡ m → misplaced (k + 1) rs ≡ m
+pub placed-on : (k : ℕ) (r : Record) (rs : List Record) (m : ℕ) → placed k r ≡ true → misplaced k (r ∷ rs) ≡ m → misplaced (k + 1) rs ≡ m
 unfolding misplaced
 placed-on k r rs m e h = rw e at h
 
-stops : (k : ℕ) (r : Record) (rs : List Record) (m : ℕ) → placed k r ≡ false → misplaced k (r ∷ rs) ≡ m → k ≡ m
+pub stops : (k : ℕ) (r : Record) (rs : List Record) (m : ℕ) → placed k r ≡ false → misplaced k (r ∷ rs) ≡ m → k ≡ m
 unfolding misplaced
 stops k r rs m e h = rw e at h
 
@@ -86,7 +86,7 @@ module _ (s : List ℕ) (at k w left : ℕ) (h : Reached s at k w left) (more : 
   }
 
 -- ---- at the text's end, and after the last record that there is room for
-none-left : (left : ℕ) → recordsFrom left [] ≡ []
+pub none-left : (left : ℕ) → recordsFrom left [] ≡ []
 unfolding recordsFrom
 none-left zero = refl
 none-left (suc left) = refl

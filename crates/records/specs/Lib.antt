@@ -2,3 +2,4 @@
 pub mod Parts
 pub mod Records
 pub mod Sheets
+pub mod Keeping

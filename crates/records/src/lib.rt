@@ -5,6 +5,7 @@ use layout::Layout;
 
 mod grids;
 mod headings;
+pub mod kept;
 mod parts;
 pub mod records;
 pub mod sheets;
@@ -13,6 +14,9 @@ pub mod sheets;
 pub const LIMIT: u32 = 2097152;
 
 pub const MAX_RECORDS: usize = 512;
+
+// Two places for each record, from record 1 on.
+pub const KEPT: usize = 1026;
 
 // H.
 pub struct Heading {

@@ -1,13 +1,18 @@
 // A whole sheet: numbers 1 to 3 of document 01's table.
 use crate::Checked;
+use crate::KEPT;
 use crate::MAX_RECORDS;
 use crate::Record;
 use crate::Step;
+use crate::kept::store;
 use crate::records::next_record;
 use crate::records::read_record;
 ghost use mathlib.Core.Path.{_≡_};
-ghost use Prim.Native.Nat.{_≤_};
+ghost use Prim.Native.Nat.{ℕ, _≤_};
+ghost use lib.ListN.{length};
 ghost use Rattle.records.specs.Sheets.{placed as placedAt, widgetStep, widget as widgetOf, checked, sized};
+ghost use Rattle.records.specs.declared.Checked.the-variants.{Accepted};
+ghost use Rattle.records.specs.Keeping.{Kept};
 
 // Whether this may be record k, from 1.
 fn placed(k: usize, r: Record) -> bool
@@ -58,9 +63,10 @@ fn ended(k: usize, w: usize, room: usize) -> Checked
     Checked::Accepted(k, w)
 }
 
-// What of 1 to 3 applies to the sheet, with a slice of so many places; or how many records and W it has.
-pub fn check(text: &[u8], room: usize) -> Checked
-    ensures { λ r. ⌜ r ≡ checked (now (text .entry)) room ⌝ }
+// What of 1 to 3 applies to the sheet, with a slice of so many places; or how many records and W it has, and then what each W says is kept.
+pub fn check_keeping(text: &[u8], room: usize, sizes: &mut [f32]) -> Checked
+    requires { ⌜ length (now sizes) ≡ 1026 ⌝ }
+    ensures { λ r. ⌜ (r ≡ checked (now (text .entry)) room) × ((k w : ℕ) → r ≡ Accepted k w → Kept 512 (now (text .entry)) (now (sizes .exit)) 1) ⌝ }
 {
     let n = text.len();
     if n == 0 {
@@ -76,6 +82,7 @@ pub fn check(text: &[u8], room: usize) -> Checked
         }
         let r = read_record(text, at);
         if placed(k + 1, r) {
+            store(sizes, k + 1, r);
             w += widget(r);
             at = next_record(text, at);
             k += 1;
@@ -88,4 +95,11 @@ pub fn check(text: &[u8], room: usize) -> Checked
         return Checked::Refused(2, 513);
     }
     ended(k, w, room)
+}
+
+pub fn check(text: &[u8], room: usize) -> Checked
+    ensures { λ r. ⌜ r ≡ checked (now (text .entry)) room ⌝ }
+{
+    let mut sizes: [f32; KEPT] = [0.0; KEPT];
+    check_keeping(text, room, &mut sizes)
 }

@@ -10,12 +10,15 @@ use lib.Dec.{eqb, ltb}
 use borrow.Author.Tests.{ltb-true, ltb-false}
 use lib.ListN.{length, take, drop, length-append, drop-of-length-le}
 use lib.Seq.{sets-eq, drop-nil}
+use lib.Ieee.{Float}
 use Rattle.emath.specs.declared.Vec2.{Vec2}
 use Rattle.grid.specs.declared.Memory.{Memory}
 use Rattle.placer.specs.declared.Placer.{Placer}
 use Rattle.records.specs.Records.{recordAt, size, rest, nextAt}
 use Rattle.records.proofs.Places.{next-is-rest}
+use Rattle.records.specs.Keeping.{Kept}
 use Rattle.records.proofs.Reached.{records-step}
+use Rattle.records.proofs.Keeping.{kept-next}
 use Rattle.sheet.specs.Passing.{Room}
 use Rattle.records.specs.Sheets.{recordsFrom, records, after, misplaced, widgets, widget, widgetStep, isEmpty, pick, sized, checked}
 use Rattle.records.specs.declared.Checked.the-variants.{Accepted, Refused}
@@ -155,12 +158,13 @@ fewer-after left text at more = go (ltb at (length text)) refl
         let z : widgets (recordsFrom (left - 1) (drop (nextAt text at) text)) ≡ 0 = ap (λ (u : List ℕ). widgets (recordsFrom (left - 1) u)) f ∙ no-records (left - 1) in
         omega (arith, z)
 
-pub room-after : (text : List ℕ) (room r w : ℕ) → checked text room ≡ Accepted r w → Room text room
-room-after text room r w e =
+pub room-after : (text : List ℕ) (room r w : ℕ) (sizes : List Float) → length sizes ≡ 1026 → Kept 512 text sizes 1 → checked text room ≡ Accepted r w → Room text room sizes
+room-after text room r w sizes l k e =
     let h = room-there text room r w e in
     let a = fewer-after 512 text 0 (omega arith) in
     let b = fewer-after 511 text (nextAt text 0) (omega arith) in
-    record { plain = omega (arith, h, a); grid = omega (arith, h, a, b) }
+    let next : Kept 511 (drop (nextAt text 0) text) sizes 2 = kept-next text sizes 0 1 512 k in
+    record { plain = omega (arith, h, a); grid = omega (arith, h, a, b); places = l; kept = next; kept-grid = kept-next text sizes (nextAt text 0) 2 511 next }
 
 -- ---- the slice
 module _ (text : List ℕ) (known : Bool) (m : Memory) (sizing : Bool) (out : List ℤ) where

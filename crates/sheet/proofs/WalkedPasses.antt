@@ -215,3 +215,9 @@ pub as-laid : (text : List ℕ) (known : Bool) (m : Memory) (sizing : Bool) (out
 as-laid text known m sizing out p now (e, f) =
     let w = walked-is-laid text known m sizing out in
     (e ∙ ap (λ (a : Answer). a .passed) w, f ∙ ap (λ (a : Answer). a .slice) w)
+
+-- the same beside another fact
+pub laid-with : {X : Type 0} (text : List ℕ) (known : Bool) (m : Memory) (sizing : Bool) (out : List ℤ) (p : Passed) (now : List ℤ)
+    → (p ≡ passIn text known m sizing out .passed) × (now ≡ passIn text known m sizing out .slice) → X
+    → (p ≡ passedOf (laid text known m sizing out .outcome)) × (now ≡ laid text known m sizing out .slice) × X
+laid-with text known m sizing out p now e x = let l = as-laid text known m sizing out p now e in (l .0, l .1, x)

@@ -1,16 +1,19 @@
 -- A pass over a text as the code walks it.
 use Prim.Native.Nat.{ℕ, _*_, _≤_}
+use mathlib.Core.Path.{_≡_}
 use mathlib.Core.Bool.{Bool, true, false}
 use mathlib.Core.List.{List, []}
 use lib.IntN.{ℤ}
 use lib.Dec.{eqb}
 use lib.ListN.{length, drop}
+use lib.Ieee.{Float}
 use Rattle.emath.specs.declared.Vec2.{Vec2}
 use Rattle.grid.specs.declared.Memory.{Memory}
 use Rattle.placer.specs.declared.Placer.{Placer}
 use Rattle.placer.specs.declared.PlacerAnswer.{PlacerAnswer}
 use Rattle.records.specs.Records.{recordAt, nextAt}
 use Rattle.records.specs.Sheets.{recordsFrom, widgets, checked}
+use Rattle.records.specs.Keeping.{Kept}
 use Rattle.records.specs.declared.Heading.{Heading}
 use Rattle.records.specs.declared.GridOptions.{GridOptions}
 use Rattle.records.specs.declared.Record.{Record}
@@ -22,10 +25,20 @@ use Rattle.sheet.specs.Pass.{Ran, refusedAt, outcomeOf, headed, gridded}
 use Rattle.sheet.specs.Slices.{passedOf}
 use Rattle.sheet.specs.Walks.{Run, walked}
 
--- the slice has room for the W after H, and after G
-pub record Room (text : List ℕ) (room : ℕ) : Type 0 where
+-- the slice has room for the W after H, and after G, and what each says is kept
+pub record Room (text : List ℕ) (room : ℕ) (sizes : List Float) : Type 0 where
   pub plain : 8 * widgets (recordsFrom 511 (drop (nextAt text 0) text)) ≤ room
   pub grid : 8 * widgets (recordsFrom 510 (drop (nextAt text (nextAt text 0)) text)) ≤ room
+  pub places : length sizes ≡ 1026
+  pub kept : Kept 511 (drop (nextAt text 0) text) sizes 2
+  pub kept-grid : Kept 510 (drop (nextAt text (nextAt text 0)) text) sizes 3
+
+-- the text was checked, and nothing turned back
+pub record Known (text : List ℕ) (room : ℕ) (sizes : List Float) : Type 0 where
+  pub all : ℕ
+  pub few : ℕ
+  pub accepted : checked text room ≡ checked-of.Accepted all few
+  pub kept : Room text room sizes
 
 abbrev pub ranOf : Run → Ran
 ranOf r = record { number = r .number; at = r .at; cells = []; placer = r .placer }

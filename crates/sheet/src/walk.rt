@@ -5,19 +5,21 @@ use crate::steps::record_moved;
 use emath::Vec2;
 use placer::BarePlacer;
 use placer::Spot;
+use records::kept::kept_record;
 use records::records::next_record;
-use records::records::read_record;
 ghost use mathlib.Core.Path.{_≡_};
 ghost use Prim.Native.Nat.{_+_, _*_, _≤_};
 ghost use lib.ListN.{length, drop};
 ghost use Rattle.records.specs.Sheets.{recordsFrom, widgets};
+ghost use Rattle.records.specs.Keeping.{Kept};
 ghost use Rattle.placer.specs.Lent.{placerOf};
 ghost use Rattle.sheet.specs.Calls.{Ready};
 ghost use Rattle.sheet.specs.Walks.{runOf, walked};
 
-// From the place `from`, where record `first` is, at most `most` records; each W's rectangles go to the slice.
+// From the place `from`, where record `first` is, at most `most` records, the W as they were kept; each W's rectangles go to the slice.
 pub fn run(
     text: &[u8],
+    sizes: &[f32],
     from: usize,
     first: usize,
     most: usize,
@@ -31,8 +33,8 @@ pub fn run(
     out: &mut [i32],
 ) -> SpotRun
     requires { ⌜ Ready placer spot (now «prev_widths») (now «prev_heights») (now widths) (now heights) ⌝ }
-    requires { ⌜ (from ≤ length (now text)) × (first + most ≤ 600) ⌝ }
-    requires { ⌜ 8 * widgets (recordsFrom most (drop from (now text))) ≤ length (now out) ⌝ }
+    requires { ⌜ (from ≤ length (now text)) × (first + most ≤ 513) ⌝ }
+    requires { ⌜ (8 * widgets (recordsFrom most (drop from (now text))) ≤ length (now out)) × (length (now sizes) ≡ 1026) × Kept most (drop from (now text)) (now sizes) first ⌝ }
     ensures { λ r. ⌜ record { run = runOf placer r (now («prev_widths» .entry)) (now («prev_heights» .entry)) (now (widths .exit)) (now (heights .exit)); slice = now (out .exit) } ≡ walked most spacing first (placerOf placer spot (now («prev_widths» .entry)) (now («prev_heights» .entry)) (now (widths .entry)) (now (heights .entry))) (drop from (now (text .entry))) (now (out .entry)) 0 ⌝ }
 {
     let mut s = spot;
@@ -56,7 +58,7 @@ pub fn run(
             widths,
             heights,
             spacing,
-            read_record(text, at),
+            kept_record(text, at, sizes, n),
         );
         let number = m.number;
         let next = m.spot;

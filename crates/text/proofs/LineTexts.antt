@@ -10,7 +10,7 @@ use borrow.Author.Tests.{le-leb, lt-leb}
 use lib.IntN.{ℤ, pos, natAbs}
 use lib.ListN.{length, getD, drop, set, drop-of-length-le, length-append}
 use lib.Seq.{sets, drop-cons}
-use Rattle.text.specs.Fields.{columns, text, negative, hasText, writtenAt}
+use Rattle.text.specs.Fields.{columns, text, negative, hasText}
 use Rattle.text.specs.Lines.{texts, haveTexts, line, lineAt}
 
 -- the numbers from i on begin with number i
@@ -67,10 +67,6 @@ texts-step zs i h = rw (from zs i h)
 all-of : (a b : Bool) → cond a b false ≡ true → (a ≡ true) × (b ≡ true)
 all-of true b h = (refl, h)
 all-of false b h = let o : _≡_ {A = ℕ} 0 1 = cc in absurd (omega arith)
-
-pub wrote : (out : List ℕ) (at : ℕ) (z : ℤ) (b : Bool) (o : List ℕ) → (b, o) ≡ writtenAt out at z → at + 8 ≤ length out → hasText z ≡ true → o ≡ sets out at (text z)
-unfolding writtenAt
-wrote out at z b o e h t = ap (λ (p : Bool × List ℕ). p .1) (rw (le-leb (at + 8) (length out) h, t) at e)
 
 module _ (zs : List ℤ) (i : ℕ) (h : i < length zs) (have : haveTexts (drop i zs) ≡ true) where
   pub have-this : hasText (getD zs i (pos 0)) ≡ true

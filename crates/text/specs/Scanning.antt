@@ -1,9 +1,11 @@
 -- A field read from the left in one go, as the code does it; proofs/Scanned.antt has that this is what Fields.antt says.
-use Prim.Native.Nat.{ℕ, _+_, _-_, _*_}
+use Prim.Native.Nat.{ℕ, _+_, _-_, _*_, _<_}
+use mathlib.Core.Path.{_≡_}
 use mathlib.Core.List.{List, [], _∷_}
 use mathlib.Core.Bool.{Bool, false, cond}
 use lib.IntN.{pos, negℤ}
 use lib.Dec.{leb, ltb, eqb}
+use lib.ListN.{length, drop, getD}
 use Rattle.text.specs.Fields.{pick}
 use Rattle.text.specs.declared.Field.{Field}
 use Rattle.text.specs.declared.Field.the-variants.{Blank, Number, Wrong}
@@ -43,3 +45,8 @@ signed limit (b ∷ s) = pick (eqb b 45) (minus limit (unsigned s)) (plus limit 
 unfoldable pub scan : ℕ → List ℕ → Field
 scan limit [] = Blank
 scan limit (b ∷ s) = pick (eqb b 32) (scan limit s) (signed limit (b ∷ s))
+
+-- the columns before r are spaces and the one there is none: what is left is scanned as all are
+pub record Spaces (f : List ℕ) (r : ℕ) : Type 0 where
+  pub stop : r < length f → getD f r 0 ≡ 32 → ⊥
+  pub same : (limit : ℕ) → scan limit (drop r f) ≡ scan limit f

@@ -6,7 +6,7 @@ ghost use lib.ListN.{length, drop};
 ghost use lib.Seq.{sets};
 ghost use lib.IntN.{natAbs};
 ghost use Rattle.text.specs.Fields.{column as columnOf, columns, field, fieldAt, hasText, negative, writtenAt};
-ghost use Rattle.text.specs.Scanning.{none, valueFrom, unsigned as unsignedOf, fits as fitsIn, plus as plusOf, minus as minusOf, signed as signedOf};
+ghost use Rattle.text.specs.Scanning.{none, valueFrom, unsigned as unsignedOf, fits as fitsIn, plus as plusOf, minus as minusOf, signed as signedOf, Spaces};
 
 const TENS: [u32; 8] = [1, 10, 100, 1000, 10000, 100000, 1000000, 10000000];
 
@@ -141,16 +141,27 @@ fn signed(f: &[u8], at: usize, limit: u32) -> Field
     plus(unsigned(f, at), limit)
 }
 
-fn read_columns(f: &[u8], limit: u32) -> Field
-    requires { ⌜ 8 ≡ length (now f) ⌝ }
-    ensures { λ r. ⌜ r ≡ field limit (now (f .entry)) ⌝ }
+// How many columns are spaces, from the first on.
+fn spaces(f: &[u8]) -> usize
+    ensures { λ r. ⌜ Spaces (now (f .entry)) r ⌝ }
 {
     let mut i = 0;
     while i < f.len() {
         if f[i] != 32 {
-            return signed(f, i, limit);
+            return i;
         }
         i += 1;
+    }
+    i
+}
+
+fn read_columns(f: &[u8], limit: u32) -> Field
+    requires { ⌜ 8 ≡ length (now f) ⌝ }
+    ensures { λ r. ⌜ r ≡ field limit (now (f .entry)) ⌝ }
+{
+    let i = spaces(f);
+    if i < f.len() {
+        return signed(f, i, limit);
     }
     Field::Blank
 }
@@ -189,7 +200,8 @@ pub fn magnitude(z: i32) -> u32
     z as u32
 }
 
-fn put_signed(out: &mut [u8], at: usize, z: i32)
+// Writes a number that has a text.
+pub(crate) fn put_signed(out: &mut [u8], at: usize, z: i32)
     requires { ⌜ (at + 8 ≤ length (now out)) × (natAbs z < 100000000) ⌝ }
     ensures { λ _. ⌜ now (out .exit) ≡ sets (now (out .entry)) at (columns (negative z) (natAbs z) 8) ⌝ }
 {

@@ -1,6 +1,6 @@
 // A line of the printed list: a letter, its numbers in the sheet's columns, one LF.
 use crate::fields::has_text;
-use crate::fields::write_field;
+use crate::fields::put_signed;
 ghost use mathlib.Core.Path.{_≡_};
 ghost use mathlib.Core.Bool.{true};
 ghost use Prim.Native.Nat.{_+_, _*_, _≤_};
@@ -32,7 +32,7 @@ fn put_texts(out: &mut [u8], at: usize, numbers: &[i32])
     let mut q = at;
     while i < numbers.len() {
         let z = numbers[i];
-        write_field(out, q, z);
+        put_signed(out, q, z);
         i += 1;
         q += 8;
     }

@@ -44,9 +44,8 @@ fn time(sheet: &Sheet) {
     ];
     let [text, rust_text, parsed, parsed_checked, rest @ ..] = &times(works);
     let [pass, rust_pass, checked_pass, list, rust_list, checked_list] = rest;
-    // There is no entry point for a parsed sheet. The Rattle reads each record twice, to check the
-    // text and to lay it out.
-    let laid = pass.less_twice(text);
+    // There is no entry point for a parsed sheet.
+    let laid = pass.less(text);
     show(sheet, "the text alone", [Some(text), Some(rust_text), None]);
     let rows = [
         ("(a) a pass, parsed", [&laid, parsed, parsed_checked]),
@@ -64,5 +63,5 @@ fn main() {
     line("", &columns, &["ratio", "ratio"].map(String::from));
     time(&Sheet::new("strip", sheets::strip(), false));
     time(&Sheet::new("grid", sheets::grid(), true));
-    println!("(a) of the Rattle is not measured: it is (b) less twice the text alone");
+    println!("(a) of the Rattle is not measured: it is (b) less the text alone");
 }

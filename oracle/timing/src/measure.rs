@@ -51,8 +51,8 @@ impl Times {
         median(self.with(other, |a, b| a / b))
     }
 
-    pub fn less_twice(&self, other: &Self) -> Self {
-        Self(self.with(other, |a, b| a - 2.0 * b))
+    pub fn less(&self, other: &Self) -> Self {
+        Self(self.with(other, |a, b| a - b))
     }
 }
 

@@ -7,7 +7,7 @@ use Rattle.grid.proofs.lent.next_cell.Tie as tie
 
 returns : tie.Need-returns
 unfolding nextCell nextWidth prevRowHeight colWidth rowHeight
-returns c ws hs = rw (c .round-ui .ensures, c .before .from-min-size .ensures, c .before .before .max2 .ensures, c .before .before .before .max .ensures, c .before .before .before .before .entry .ensures, c .before .before .before .before .before .next-width .ensures)
+returns c ws hs = rw (c .round-ui-quickly .ensures, c .before .from-min-size .ensures, c .before .before .max2 .ensures, c .before .before .before .max .ensures, c .before .before .before .before .entry .ensures, c .before .before .before .before .before .next-width .ensures)
 
 pub next-cell-spec : {M : Type 1} → statement M
 next-cell-spec = tie.close (tie.spec (λ c κs. search needs) (λ c κs. search needs) (λ c κs. search needs) (λ c κs. search needs) (λ c κs. search needs) (λ c κs. search needs) returns)

@@ -1,3 +1,4 @@
+-- `listing::printing::print` meets its contract. Assumes nothing.
 use native.Mathlib.Omega.{arith}
 use Rattle.listing.proofs.Puts.{passed-within}
 use Rattle.listing.specs.Lists.{listOf}

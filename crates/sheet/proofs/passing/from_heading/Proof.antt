@@ -14,7 +14,7 @@ unfolding fromHeading headed checkedNew
 returns c = rw (c .refused .ensures, ← c .before .before .new .ensures, ne-eqb _ _ (c .before .if1 .taken)) (refl, refl)
 
 after-head-requires : tie.Need-after-head-requires
-after-head-requires c κs = (headed-none _ _ _ (c .before .before .before .before .before .new .ensures) (c .before .before .before .before .if1 .left), c .before .before .before .before .before .before .before .before .pre)
+after-head-requires c κs = (headed-none _ _ _ (c .before .before .before .before .before .new .ensures) (c .before .before .before .before .if1 .left), c .before .before .before .before .before .before .before .before .before .pre)
 
 returns-2 : tie.Need-returns-2
 unfolding fromHeading headed checkedNew

@@ -16,14 +16,14 @@ returns c = rw (c .refused .ensures, ne-eqb _ _ (c .before .if1 .taken)) (refl, 
 
 run-requires : tie.Need-run-requires
 run-requires c κs =
-    let a = c .before .before .before .before .before .before .before .before .before .before .before .before .before .before .before .before .args in
+    let a = c .before .before .before .before .before .before .before .before .before .before .before .before .before .before .before .before .before .args in
     let e : placerOf (c .before .before .before .before .before .before .bare .result) (c .before .before .before .before .before .spot .result) (c .before .before .before .before .before .before .before .before .before .before .widths-of .result) (c .before .before .before .before .before .before .before .before .before .heights-of .result) (c .before .before .before .before .before .before .before .before .widths-of2 .result) (c .before .before .before .before .before .before .before .heights-of2 .result) ≡ a .a .placer = rw (c .before .before .before .before .before .spot .ensures, c .before .before .before .before .before .before .bare .ensures, c .before .before .before .before .before .before .before .heights-of2 .ensures, c .before .before .before .before .before .before .before .before .widths-of2 .ensures, c .before .before .before .before .before .before .before .before .before .heights-of .ensures, c .before .before .before .before .before .before .before .before .before .before .widths-of .ensures) in
-    (record { none = rw e (c .before .before .before .before .before .before .before .before .before .before .before .before .before .before .before .before .pre .0 (c .before .before .before .before .before .before .before .before .before .before .before .before .before .before .if1 .left)); cols = search needs; rows = search needs }, (c .before .before .before .before .before .before .before .before .before .before .before .before .before .before .before .before .pre .1 .0, c .before .before .before .before .before .before .before .before .before .before .before .before .before .before .before .before .pre .1 .1))
+    (record { none = rw e (c .before .before .before .before .before .before .before .before .before .before .before .before .before .before .before .before .before .pre .0 (c .before .before .before .before .before .before .before .before .before .before .before .before .before .before .if1 .left)); cols = search needs; rows = search needs }, (c .before .before .before .before .before .before .before .before .before .before .before .before .before .before .before .before .before .pre .1 .0, c .before .before .before .before .before .before .before .before .before .before .before .before .before .before .before .before .before .pre .1 .1))
 
 returns-2 : tie.Need-returns-2
 unfolding goneOn
 returns-2 c =
-    let a = c .before .before .before .before .before .before .before .before .before .before .before .before .before .before .before .before .before .before .before .before .before .args in
+    let a = c .before .before .before .before .before .before .before .before .before .before .before .before .before .before .before .before .before .before .before .before .before .before .args in
     let p = a .a .placer in
     let e = rw (c .before .before .before .before .before .before .before .before .before .before .spot .ensures, c .before .before .before .before .before .before .before .before .before .before .before .bare .ensures, c .before .before .before .before .before .before .before .before .before .before .before .before .heights-of2 .ensures, c .before .before .before .before .before .before .before .before .before .before .before .before .before .widths-of2 .ensures, c .before .before .before .before .before .before .before .before .before .before .before .before .before .before .heights-of .ensures, c .before .before .before .before .before .before .before .before .before .before .before .before .before .before .before .widths-of .ensures) at (c .before .before .before .before .run .ensures) in
     let f = rw (c .before .before .before .before .before .before .before .before .before .before .before .bare .ensures) at (c .finish .ensures) in

@@ -7,7 +7,7 @@ use Rattle.sheet.proofs.passing.plain.Statement.{statement}
 use Rattle.sheet.proofs.passing.plain.Tie as tie
 
 go-on-requires : tie.Need-go-on-requires
-go-on-requires c κs = rw (c .before .next-record .ensures) ((λ z. c .before .before .before .pre .0), ((next-within _ _, omega arith), c .before .before .before .pre .1))
+go-on-requires c κs = rw (c .before .next-record .ensures) ((λ z. c .before .before .before .before .pre .0), ((next-within _ _, omega arith), c .before .before .before .before .pre .1))
 
 returns : tie.Need-returns
 unfolding plainOn

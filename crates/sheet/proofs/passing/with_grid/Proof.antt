@@ -8,7 +8,7 @@ use Rattle.sheet.proofs.passing.with_grid.Statement.{statement}
 use Rattle.sheet.proofs.passing.with_grid.Tie as tie
 
 go-on-requires : tie.Need-go-on-requires
-go-on-requires c κs = rw (c .before .before .next-record2 .ensures, c .before .before .before .next-record .ensures) ((λ z. gridded-none _ _ _ _ _ _ _ (c .before .gridded .ensures) z), ((next-within _ _, omega arith), c .before .before .before .before .before .pre))
+go-on-requires c κs = rw (c .before .before .next-record2 .ensures, c .before .before .before .next-record .ensures) ((λ z. gridded-none _ _ _ _ _ _ _ (c .before .gridded .ensures) z), ((next-within _ _, omega arith), c .before .before .before .before .before .before .pre))
 
 returns : tie.Need-returns
 unfolding gridOn

@@ -1,4 +1,5 @@
-use Rattle.text.proofs.LineTexts.{wrote, have-this, have-rest, put-more, put-none}
+use Rattle.text.proofs.LineTexts.{have-this, have-rest, put-more, put-none}
+use Rattle.text.proofs.Signs.{has-text-small}
 use Rattle.text.specs.Lines.{haveTexts, texts}
 use lib.ListN.{length, drop, getD}
 use lib.Seq.{sets}
@@ -29,8 +30,13 @@ mul-z c = search needs
 shared-slice-copy-out-z : tie.Need-shared-slice-copy-out-z Inv-loop μ-loop
 shared-slice-copy-out-z c = search needs
 
-write-field-requires : tie.Need-write-field-requires Inv-loop μ-loop
-write-field-requires c κs = search needs
+put-signed-requires : tie.Need-put-signed-requires Inv-loop μ-loop
+put-signed-requires c κs =
+    let zs = c .before .before .before .before .before .args .numbers .now in
+    let l = c .before .before .before .loop in
+    let e : toZ w32 (ofZ w32 (getD zs (l .i) (pos 0))) ≡ getD zs (l .i) (pos 0) = search needs in
+    let t : hasText (getD zs (l .i) (pos 0)) ≡ true = have-this zs (l .i) (c .before .before .loop-test .taken) (l .inv .3) in
+    (omega arith, rw e (has-text-small (getD zs (l .i) (pos 0)) t))
 
 add-i : tie.Need-add-i Inv-loop μ-loop
 add-i c = search needs
@@ -45,15 +51,13 @@ loop-again : tie.Need-loop-again Inv-loop μ-loop
 loop-again c =
     let zs = c .before .before .before .before .before .before .before .before .args .numbers .now in
     let l = c .before .before .before .before .before .before .loop in
-    let e : toZ w32 (ofZ w32 (getD (c .before .before .before .before .before .before .before .before .args .numbers .now) (c .before .before .before .before .before .before .loop .i) (pos 0))) ≡ getD (c .before .before .before .before .before .before .before .before .args .numbers .now) (c .before .before .before .before .before .before .loop .i) (pos 0) = search needs in
-    let t : hasText (getD zs (l .i) (pos 0)) ≡ true = have-this zs (l .i) (c .before .before .before .before .before .loop-test .taken) (l .inv .3) in
-    let room : l .q + 8 ≤ length (l .out) = omega arith in
-    let w = wrote _ _ _ _ _ (c .before .before .write-field .ensures) room (rw e t) in (
-      c .before .before .write-field .kept .0 ∙ l .inv .0,
+    let more = c .before .before .before .before .before .loop-test .taken in
+    let e : toZ w32 (ofZ w32 (getD zs (l .i) (pos 0))) ≡ getD zs (l .i) (pos 0) = search needs in (
+      c .before .before .put-signed .kept .0 ∙ l .inv .0,
       search needs,
       search needs,
-      have-rest zs (l .i) (c .before .before .before .before .before .loop-test .taken) (l .inv .3),
-      put-more zs (l .i) (c .before .before .before .before .before .loop-test .taken) (l .inv .3) (l .out) _ _ (l .q) (l .inv .4) (w ∙ ap (λ (z : ℤ). sets (l .out) (l .q) (text z)) e),
+      have-rest zs (l .i) more (l .inv .3),
+      put-more zs (l .i) more (l .inv .3) (l .out) _ _ (l .q) (l .inv .4) (c .before .before .put-signed .ensures ∙ ap (λ (z : ℤ). sets (l .out) (l .q) (text z)) e),
     )
 
 same-length : tie.Need-same-length Inv-loop μ-loop
@@ -71,7 +75,7 @@ put-texts-spec =
     loop-holds
     mul-z
     shared-slice-copy-out-z
-    write-field-requires
+    put-signed-requires
     add-i
     add-q
     loop-less

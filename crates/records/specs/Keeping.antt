@@ -1,0 +1,39 @@
+-- How the check keeps what each W says, by the number of its record, so that it is read once. Nobody has to believe it.
+use Prim.Native.Nat.{ℕ, zero, suc, _+_, _*_}
+use mathlib.Core.Path.{_≡_}
+use mathlib.Core.List.{List, [], _∷_}
+use lib.ListN.{getD, set}
+use lib.Ieee.{Float, nan}
+use Rattle.records.specs.declared.Step.{Step}
+use Rattle.records.specs.declared.Step.the-variants.{Widget, Space, RowHeight, MaxWidth, MaxHeight, MinWidth, MinHeight, RowEnd}
+use Rattle.records.specs.declared.Record.{Record}
+use Rattle.records.specs.declared.Record.the-variants.{Heading, Grid, Step as Steps, Wrong}
+use Rattle.records.specs.Parts.{letter}
+use Rattle.records.specs.Records.{recordOf, rest}
+
+-- places 2n and 2n + 1 are record n's, where it is a W
+unfoldable pub storedStep : List Float → ℕ → Step → List Float
+storedStep ss n (Widget x y) = set (set ss (2 * n) x) (2 * n + 1) y
+storedStep ss n (Space x) = ss
+storedStep ss n (RowHeight x) = ss
+storedStep ss n (MaxWidth x) = ss
+storedStep ss n (MaxHeight x) = ss
+storedStep ss n (MinWidth x) = ss
+storedStep ss n (MinHeight x) = ss
+storedStep ss n RowEnd = ss
+
+unfoldable pub stored : List Float → ℕ → Record → List Float
+stored ss n (Heading h) = ss
+stored ss n (Grid g) = ss
+stored ss n (Steps st) = storedStep ss n st
+stored ss n Wrong = ss
+
+-- record n, at the front of the text, says what is kept of it, where it is a W
+abbrev pub Says : List ℕ → List Float → ℕ → Type 0
+Says s ss n = letter s ≡ 87 → recordOf s ≡ Steps (Widget (getD ss (2 * n) nan) (getD ss (2 * n + 1) nan))
+
+-- so does each of at most `left` records from there on
+unfoldable pub Kept : ℕ → List ℕ → List Float → ℕ → Type 0
+Kept zero s ss n = Unit {0}
+Kept (suc left) [] ss n = Unit {0}
+Kept (suc left) (b ∷ s) ss n = Says (b ∷ s) ss n × Kept left (rest (b ∷ s)) ss (n + 1)

@@ -4,6 +4,7 @@ use grid::Memory;
 use placer::Spot;
 
 pub mod cells;
+mod outcomes;
 pub mod passing;
 mod steps;
 mod walk;

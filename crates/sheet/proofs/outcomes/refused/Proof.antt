@@ -1,6 +1,6 @@
 use borrow.Author.Needs.{needs}
-use Rattle.sheet.proofs.passing.refused.Statement.{statement}
-use Rattle.sheet.proofs.passing.refused.Tie as tie
+use Rattle.sheet.proofs.outcomes.refused.Statement.{statement}
+use Rattle.sheet.proofs.outcomes.refused.Tie as tie
 
 returns : tie.Need-returns
 returns c = rw (c .laid-of .ensures)

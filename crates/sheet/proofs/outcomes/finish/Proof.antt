@@ -3,8 +3,8 @@ use Rattle.sheet.specs.Pass.{outcomeOf, plateOf, remembered}
 use Rattle.sheet.specs.Slices.{laidOf}
 use borrow.Author.Tests.{eq-eqb, ne-eqb}
 use borrow.Author.Needs.{needs}
-use Rattle.sheet.proofs.passing.finish.Statement.{statement}
-use Rattle.sheet.proofs.passing.finish.Tie as tie
+use Rattle.sheet.proofs.outcomes.finish.Statement.{statement}
+use Rattle.sheet.proofs.outcomes.finish.Tie as tie
 
 returns : tie.Need-returns
 unfolding outcomeOf

@@ -1,7 +1,7 @@
 use borrow.Author.Needs.{needs}
 use Rattle.sheet.specs.Pass.{gridded, gridOf}
-use Rattle.sheet.proofs.passing.gridded.Statement.{statement}
-use Rattle.sheet.proofs.passing.gridded.Tie as tie
+use Rattle.sheet.proofs.outcomes.gridded.Statement.{statement}
+use Rattle.sheet.proofs.outcomes.gridded.Tie as tie
 
 returns : tie.Need-returns
 unfolding gridded gridOf

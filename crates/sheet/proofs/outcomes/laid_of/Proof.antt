@@ -1,7 +1,7 @@
 use borrow.Author.Tests.{eq-eqb, ne-eqb}
 use Rattle.sheet.specs.Slices.{laidOf}
-use Rattle.sheet.proofs.passing.laid_of.Statement.{statement}
-use Rattle.sheet.proofs.passing.laid_of.Tie as tie
+use Rattle.sheet.proofs.outcomes.laid_of.Statement.{statement}
+use Rattle.sheet.proofs.outcomes.laid_of.Tie as tie
 
 returns : tie.Need-returns
 unfolding laidOf

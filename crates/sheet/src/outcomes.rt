@@ -1,0 +1,122 @@
+// What a pass answers: a refusal, or what the run came to; and the placer that G gives.
+use crate::Laid;
+use crate::Passed;
+use crate::SpotRun;
+use emath::Rect;
+use emath::faults::or_else;
+use grid::GridLayout;
+use grid::Memory;
+use placer::BarePlacer;
+use placer::Placer;
+use placer::PlacerAnswer;
+use placer::lent::whole;
+use placer::rules::save_grid;
+use records::GridOptions;
+use records::Heading;
+ghost use mathlib.Core.Path.{_≡_};
+ghost use mathlib.Core.List.{[]};
+ghost use Rattle.sheet.specs.Pass.{refusedAt, outcomeOf, gridded as griddedBy};
+ghost use Rattle.sheet.specs.Passing.{ranOf};
+ghost use Rattle.sheet.specs.Walks.{runOf};
+ghost use Rattle.sheet.specs.Slices.{laidOf, passedOf};
+
+fn laid_of(number: u8, at: usize) -> Laid
+    ensures { λ r. ⌜ r ≡ laidOf number at ⌝ }
+{
+    if number == 0 {
+        Laid::Accepted
+    } else {
+        Laid::Refused(number, at)
+    }
+}
+
+pub(crate) fn refused(number: u8, at: usize, memory: Memory) -> Passed
+    ensures { λ r. ⌜ r ≡ passedOf (refusedAt number at [] memory) ⌝ }
+{
+    let laid = laid_of(number, at);
+    let plate = Rect {
+        left: 0.0,
+        top: 0.0,
+        right: 0.0,
+        bottom: 0.0,
+    };
+    Passed {
+        laid,
+        plate,
+        memory,
+        save: false,
+    }
+}
+
+// The run's end: the plate is min_rect, and a grid gives its memory, which is the one that the arrays hold.
+pub(crate) fn finish(
+    grid: bool,
+    memory: Memory,
+    placer: BarePlacer,
+    r: SpotRun,
+    prev: Memory,
+    widths: [f32; 32],
+    heights: [f32; 128],
+) -> Passed
+    ensures { λ p. ⌜ p ≡ passedOf (outcomeOf grid memory (ranOf (runOf placer r (prev .«col_widths») (prev .«row_heights») widths heights))) ⌝ }
+{
+    let number = r.number;
+    if number != 0 {
+        return refused(number, r.at, memory);
+    }
+    let s = r.spot;
+    let region = s.region;
+    let plate = region.min_rect;
+    let laid = Laid::Accepted;
+    if grid {
+        let saved = save_grid(whole(placer, s, prev, widths, heights));
+        let kept = saved.memory;
+        return Passed {
+            laid,
+            plate,
+            memory: kept,
+            save: saved.save,
+        };
+    }
+    Passed {
+        laid,
+        plate,
+        memory,
+        save: false,
+    }
+}
+
+// G: GridLayout's `new` with the given memory, then `set_grid`.
+pub(crate) fn gridded(
+    heading: Heading,
+    options: GridOptions,
+    known: bool,
+    memory: Memory,
+    sizing: bool,
+    placer: Placer,
+) -> PlacerAnswer
+    ensures { λ a. ⌜ a ≡ griddedBy heading options known memory sizing placer ⌝ }
+{
+    let layout = heading.layout;
+    let main_dir = layout.main_dir;
+    let region = placer.region;
+    let a = GridLayout::new(
+        main_dir,
+        region,
+        known,
+        memory,
+        sizing,
+        heading.spacing,
+        options.min_cell_size,
+        options.max_cell_size,
+        options.num_columns,
+        options.start_row,
+    );
+    let g = a.grid;
+    let b = placer.set_grid(g);
+    let p = b.placer;
+    PlacerAnswer {
+        number: or_else(a.number, b.number),
+        placer: p,
+    }
+}

@@ -23,7 +23,7 @@ fn at_least_one(n: u32) -> u32
     if n < 1 { 1 } else { n }
 }
 
-// The byte in the column of the tens to the power of j.
+// The byte in the column of the tens to the power of j. Its digit is the quotient less ten times the quotient of the column before.
 fn column(neg: bool, n: u32, j: usize) -> u8
     requires { ⌜ j < 8 ⌝ }
     ensures { λ r. ⌜ r ≡ columnOf neg n j ⌝ }
@@ -31,7 +31,7 @@ fn column(neg: bool, n: u32, j: usize) -> u8
     let p = ten(j);
     let m = at_least_one(n);
     if p <= m {
-        return 48 + (n / p % 10) as u8;
+        return 48 + (n / p - n / (p * 10) * 10) as u8;
     }
     if neg {
         if p / 10 <= m {

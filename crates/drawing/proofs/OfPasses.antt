@@ -1,14 +1,15 @@
--- The numbers that a drawing shows are those of the pass: a list's W lines are as many as the pass's cells, and the fields of line k are the
--- edges of cell k, frame and then widget, in ticks. Assumes nothing.
+-- The lines of a list, counted and read back: as many W lines as cells, as many C and D lines as entries, and each field the number that was
+-- written. Assumes nothing.
 use Prim.Native.Nat.{ℕ, zero, suc, _+_, _*_, _≤_, _<_}
 use mathlib.Core.Path.{_≡_, refl, ap, sym, _∙_}
 use mathlib.Core.Bool.{Bool, true, false, cond, _&&_}
-use mathlib.Core.List.{List, [], _∷_, _++_, append-assoc}
+use mathlib.Core.List.{List, [], _∷_, _++_, append-assoc, append-nil}
 use native.Mathlib.Omega.{arith}
 use native.Mathlib.Numerals.{add-one}
-use borrow.Author.Tests.{le-leb, eq-eqb, ne-eqb, eqb-true, eqb-false}
+use borrow.Author.Tests.{le-leb, lt-leb, eq-eqb, ne-eqb, eqb-true, eqb-false}
 use lib.Dec.{leb, eqb}
 use lib.IntN.{ℤ, pos, natAbs}
+use lib.Ieee.{Float}
 use lib.ListN.{length, getD, take, drop, length-append}
 use lib.Seq.{take-at, drop-append-add, getD-at}
 use Rattle.text.proofs.LineTexts.{texts-length}
@@ -18,9 +19,10 @@ use Rattle.text.proofs.RoundTrip.{text-is-read}
 use Rattle.records.specs.Sheets.{widget, widgets}
 use Rattle.records.specs.declared.Record.{Record}
 use Rattle.sheet.specs.Pass.{Cell}
+use Rattle.sheet.specs.Sheets.{ticks}
 use Rattle.sheet.specs.Slices.{eight}
 use Rattle.sheet.proofs.Walking.{at-most-one}
-use Rattle.listing.specs.Lists.{widgetLines}
+use Rattle.listing.specs.Lists.{widgetLines, entryLines}
 use Rattle.drawing.specs.Pieces.{valueOf, fieldOf}
 use Rattle.drawing.specs.Pages.{isLine, linesFrom}
 use Rattle.drawing.proofs.Numbers.{small-text}
@@ -61,35 +63,38 @@ field-read a b letter zs i m h =
 abbrev pub widgetLine : ℕ → Cell → List ℕ
 widgetLine n c = line 87 (pos n ∷ eight c)
 
-line-there : (a b : List ℕ) (letter : ℕ) (zs : List ℤ) → isLine letter (2 + 8 * length zs) (a ++ (line letter zs ++ b)) (length a) ≡ true
+pub line-there : (a b : List ℕ) (letter : ℕ) (zs : List ℤ) → isLine letter (2 + 8 * length zs) (a ++ (line letter zs ++ b)) (length a) ≡ true
 unfolding isLine line
 line-there a b letter zs =
     let l : length a + (2 + 8 * length zs) ≤ length (a ++ (line letter zs ++ b)) = omega (arith, length-append a (line letter zs ++ b), length-append (line letter zs) b, line-long letter zs) in
     rw (le-leb (length a + (2 + 8 * length zs)) (length (a ++ (line letter zs ++ b))) l, getD-at a letter ((texts zs ++ (10 ∷ [])) ++ b) 0 (length a) refl) (eq-eqb letter letter refl)
 
--- another line comes next
-pub record Other (rest : List ℕ) : Type 0 where
-  pub first : ℕ
-  pub others : List ℕ
-  pub is : rest ≡ first ∷ others
-  pub no : first ≡ 87 → ⊥
+-- no such line comes next
+abbrev pub Ends : ℕ → ℕ → List ℕ → Type 0
+Ends letter size rest = (a : List ℕ) → isLine letter size (a ++ rest) (length a) ≡ false
 
-other-there : (a rest : List ℕ) → Other rest → isLine 87 74 (a ++ rest) (length a) ≡ false
+pub ends-other : (letter size first : ℕ) (others : List ℕ) → (first ≡ letter → ⊥) → Ends letter size (first ∷ others)
 unfolding isLine
-other-there a rest o = rw (o .is, getD-at a (o .first) (o .others) 0 (length a) refl, ne-eqb (o .first) 87 (o .no)) (go (leb (length a + 74) (length (a ++ (o .first ∷ o .others)))))
+ends-other letter size first others other a =
+    rw (getD-at a first others 0 (length a) refl, ne-eqb first letter other) (go (leb (length a + size) (length (a ++ (first ∷ others)))))
   where
     go : (b : Bool) → b && false ≡ false
     go true = refl
     go false = refl
 
-lines-none : (most : ℕ) (s : List ℕ) (at : ℕ) → isLine 87 74 s at ≡ false → linesFrom most 87 74 s at ≡ 0
-unfolding linesFrom
-lines-none zero s at e = refl
-lines-none (suc most) s at e = rw e
+pub ends-nothing : (letter size : ℕ) → 0 < size → Ends letter size []
+unfolding isLine
+ends-nothing letter size h a = rw (lt-leb (length a + size) (length (a ++ [])) (omega (arith, length-append a [])))
 
-lines-more : (most : ℕ) (s : List ℕ) (at : ℕ) → isLine 87 74 s at ≡ true → linesFrom (suc most) 87 74 s at ≡ 1 + linesFrom most 87 74 s (at + 74)
+module _ (letter size most : ℕ) (s : List ℕ) (at : ℕ) where
+  pub lines-more : isLine letter size s at ≡ true → linesFrom (suc most) letter size s at ≡ 1 + linesFrom most letter size s (at + size)
+  unfolding linesFrom
+  lines-more e = rw e
+
+pub lines-none : (letter size most : ℕ) (s : List ℕ) (at : ℕ) → isLine letter size s at ≡ false → linesFrom most letter size s at ≡ 0
 unfolding linesFrom
-lines-more most s at e = rw e
+lines-none letter size zero s at e = refl
+lines-none letter size (suc most) s at e = rw e
 
 pub no-lines : (n : ℕ) (rs : List Record) → widgetLines n rs [] ≡ []
 unfolding widgetLines
@@ -131,7 +136,7 @@ module _ (n : ℕ) (r : Record) (rs : List Record) (c : Cell) (cs : List Cell) (
   count-one : (most : ℕ) → eqb (widget r) 1 ≡ true → linesFrom most 87 74 ((a ++ widgetLine n c) ++ (widgetLines (n + 1) rs cs ++ rest)) (length (a ++ widgetLine n c)) ≡ length cs
       → linesFrom (suc most) 87 74 (a ++ (widgetLines n (r ∷ rs) (c ∷ cs) ++ rest)) (length a) ≡ suc (length cs)
   count-one most e h =
-      rw (next-line e, lines-more most _ (length a) (line-there a (widgetLines (n + 1) rs cs ++ rest) 87 (pos n ∷ eight c)), past-line, line-end) (omega (arith, h))
+      rw (next-line e, lines-more 87 74 most _ (length a) (line-there a (widgetLines (n + 1) rs cs ++ rest) 87 (pos n ∷ eight c)), past-line, line-end) (omega (arith, h))
 
   count-step : (most : ℕ) (b : Bool) → eqb (widget r) 1 ≡ b → widgets (r ∷ rs) ≡ suc (length cs)
       → (widgets rs ≡ length cs → linesFrom most 87 74 ((a ++ widgetLine n c) ++ (widgetLines (n + 1) rs cs ++ rest)) (length (a ++ widgetLine n c)) ≡ length cs)
@@ -140,9 +145,9 @@ module _ (n : ℕ) (r : Record) (rs : List Record) (c : Cell) (cs : List Cell) (
   count-step most true e w f g = count-one most e (f (one-less r rs (length cs) e w))
   count-step most false e w f g = rw (no-widget n r rs c cs e) (g (none-less r rs (suc (length cs)) e w))
 
-pub counted : (most n : ℕ) (rs : List Record) (cs : List Cell) (a rest : List ℕ) → widgets rs ≡ length cs → length cs ≤ most → Other rest
+pub counted : (most n : ℕ) (rs : List Record) (cs : List Cell) (a rest : List ℕ) → widgets rs ≡ length cs → length cs ≤ most → Ends 87 74 rest
     → linesFrom most 87 74 (a ++ (widgetLines n rs cs ++ rest)) (length a) ≡ length cs
-counted most n rs [] a rest w m o = rw (no-lines n rs) (lines-none most (a ++ rest) (length a) (other-there a rest o))
+counted most n rs [] a rest w m o = rw (no-lines n rs) (lines-none 87 74 most (a ++ rest) (length a) (o a))
 counted most n [] (c ∷ cs) a rest w m o = absurd (some-left (length cs) w)
 counted zero n (r ∷ rs) (c ∷ cs) a rest w m o = absurd (omega arith)
 counted (suc most) n (r ∷ rs) (c ∷ cs) a rest w m o =
@@ -198,3 +203,40 @@ split n (r ∷ rs) (d ∷ before) c after w =
     split-step n r rs d before c after (eqb (widget r) 1) refl w
     (λ (v : widgets rs ≡ length (before ++ (c ∷ after))). split (n + 1) rs before c after v)
     (λ (v : widgets rs ≡ suc (length (before ++ (c ∷ after)))). split (n + 1) rs (d ∷ before) c after v)
+
+-- ---- C and D lines
+abbrev entryLine : ℕ → ℕ → Float → List ℕ
+entryLine letter i x = line letter (pos i ∷ ticks 5 x ∷ [])
+
+pub entries-counted : (letter most i : ℕ) (xs : List Float) (a rest : List ℕ) → length xs ≤ most → Ends letter 18 rest
+    → linesFrom most letter 18 (a ++ (entryLines letter i xs ++ rest)) (length a) ≡ length xs
+unfolding entryLines
+entries-counted letter most i [] a rest h e = lines-none letter 18 most (a ++ rest) (length a) (e a)
+entries-counted letter zero i (x ∷ xs) a rest h e = absurd (omega arith)
+entries-counted letter (suc most) i (x ∷ xs) a rest h e =
+    let l : length a + 18 ≡ length (a ++ entryLine letter i x) = omega (arith, length-append a (entryLine letter i x), line-long letter (pos i ∷ ticks 5 x ∷ [])) in
+    let t : linesFrom most letter 18 ((a ++ entryLine letter i x) ++ (entryLines letter (i + 1) xs ++ rest)) (length (a ++ entryLine letter i x)) ≡ length xs = entries-counted letter most (i + 1) xs (a ++ entryLine letter i x) rest (omega arith) e in
+    rw (append-assoc (entryLine letter i x) (entryLines letter (i + 1) xs) rest, lines-more letter 18 most _ (length a) (line-there a (entryLines letter (i + 1) xs ++ rest) letter (pos i ∷ ticks 5 x ∷ [])), sym (append-assoc a (entryLine letter i x) (entryLines letter (i + 1) xs ++ rest)), l) (omega (arith, t))
+
+pub entries-long : (letter i : ℕ) (xs : List Float) → length (entryLines letter i xs) ≡ 18 * length xs
+unfolding entryLines
+entries-long letter i [] = refl
+entries-long letter i (x ∷ xs) = omega (arith, length-append (entryLine letter i x) (entryLines letter (i + 1) xs), line-long letter (pos i ∷ ticks 5 x ∷ []), entries-long letter (i + 1) xs)
+
+rows-end : (xs : List Float) → Ends 67 18 (entryLines 68 0 xs)
+unfolding entryLines line
+rows-end [] = ends-nothing 67 18 (omega arith)
+rows-end (x ∷ xs) = ends-other 67 18 68 _ (λ (e : _≡_ {A = ℕ} 68 67). omega (arith, e))
+
+module _ (a : List ℕ) (ws hs : List Float) where
+  pub columns-counted : length ws ≤ 32 → linesFrom 32 67 18 (a ++ (entryLines 67 0 ws ++ entryLines 68 0 hs)) (length a) ≡ length ws
+  columns-counted h = entries-counted 67 32 0 ws a (entryLines 68 0 hs) h (rows-end hs)
+
+  pub rows-counted : length hs ≤ 128 → linesFrom 128 68 18 (a ++ (entryLines 67 0 ws ++ entryLines 68 0 hs)) (length a + 18 * length ws) ≡ length hs
+  rows-counted h =
+      let l : length a + 18 * length ws ≡ length (a ++ entryLines 67 0 ws) = omega (arith, length-append a (entryLines 67 0 ws), entries-long 67 0 ws) in
+      let t : a ++ (entryLines 67 0 ws ++ entryLines 68 0 hs) ≡ (a ++ entryLines 67 0 ws) ++ (entryLines 68 0 hs ++ []) = sym (append-assoc a (entryLines 67 0 ws) (entryLines 68 0 hs)) ∙ ap (λ (x : List ℕ). (a ++ entryLines 67 0 ws) ++ x) (sym (append-nil (entryLines 68 0 hs))) in
+      rw (t, l) (entries-counted 68 128 0 hs (a ++ entryLines 67 0 ws) [] h (ends-nothing 68 18 (omega arith)))
+
+pub none-counted : (letter most : ℕ) (a : List ℕ) → linesFrom most letter 18 (a ++ []) (length a) ≡ 0
+none-counted letter most a = lines-none letter 18 most (a ++ []) (length a) (ends-nothing letter 18 (omega arith) a)

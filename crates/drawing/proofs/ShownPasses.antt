@@ -5,15 +5,15 @@ use mathlib.Core.Path.{_≡_, refl, ap, sym, _∙_, subst}
 use mathlib.Core.Bool.{Bool, true, false, cond, _&&_}
 use mathlib.Core.List.{List, [], _∷_, _++_, append-assoc}
 use native.Mathlib.Omega.{arith}
-use borrow.Author.Tests.{eq-eqb}
+use borrow.Author.Tests.{eq-eqb, eqb-true}
 use lib.Dec.{eqb}
 use lib.IntN.{ℤ, pos, natAbs}
 use lib.Ieee.{Float}
-use lib.ListN.{length, getD, length-append}
+use lib.ListN.{length, getD, take, length-append, length-take}
 use Rattle.emath.specs.Steps.{Edge}
 use Rattle.emath.specs.declared.Rect.{Rect}
 use Rattle.layout.specs.Steps.{WholeRect}
-use Rattle.grid.specs.Memories.{emptyMemory}
+use Rattle.grid.specs.Memories.{emptyMemory, widths, heights}
 use Rattle.grid.specs.declared.Memory.{Memory}
 use Rattle.text.specs.Lines.{texts, line}
 use Rattle.records.specs.Sheets.{records, widget, widgets, checked}
@@ -28,14 +28,17 @@ use Rattle.sheet.specs.Texts.{sheetIn}
 use Rattle.sheet.proofs.CallClause.{pass-all}
 use Rattle.sheet.proofs.Slices.{pass-few, room-there}
 use Rattle.sheet.proofs.TextTicks.{text-whole}
-use Rattle.sheet.proofs.WalkedPasses.{no-fault}
+use Rattle.sheet.proofs.WalkedPasses.{no-such, no-fault}
 use Rattle.sheet.proofs.WholeEdges.{whole-pass}
 use Rattle.listing.specs.Lists.{widgetLines, printed, acceptedLines, outcomeLines, memoryLines, answered, listOf}
+use Rattle.listing.specs.Putting.{WholeMemory}
+use Rattle.listing.proofs.Memories.{first-whole, second-whole}
 use Rattle.listing.proofs.Places.{all-controls}
 use Rattle.listing.proofs.Texts.{ticks-are}
 use Rattle.drawing.specs.Pieces.{fieldOf}
 use Rattle.drawing.specs.Shown.{Shows}
-use Rattle.drawing.proofs.OfPasses.{Other, counted, Split, split, widgetLine, field-read, widget-line, no-widget, one-less, none-less, some-left, no-lines, line-long}
+use Rattle.drawing.specs.Pages.{columnsOf, rowsOf}
+use Rattle.drawing.proofs.OfPasses.{Ends, ends-other, columns-counted, rows-counted, none-counted, counted, Split, split, widgetLine, field-read, widget-line, no-widget, one-less, none-less, some-left, no-lines, line-long}
 
 -- ---- whole ticks are small enough to be read
 tick-small : (x : Float) → Edge 5 x → natAbs (ticks 5 x) ≤ 9999999
@@ -73,9 +76,24 @@ lines-long n (r ∷ rs) (c ∷ cs) w =
     long-step n r rs c cs (eqb (widget r) 1) refl w (λ (v : widgets rs ≡ length cs). lines-long (n + 1) rs cs v) (λ (v : widgets rs ≡ suc (length cs)). lines-long (n + 1) rs (c ∷ cs) v)
 
 -- ---- the lines of an accepted pass
-plate-next : (zs : List ℤ) (rest : List ℕ) → Other (line 80 zs ++ rest)
+plate-next : (zs : List ℤ) (rest : List ℕ) → Ends 87 74 (line 80 zs ++ rest)
 unfolding line
-plate-next zs rest = record { first = 80; others = (texts zs ++ (10 ∷ [])) ++ rest; is = refl; no = λ (e : _≡_ {A = ℕ} 80 87). omega (arith, e) }
+plate-next zs rest = ends-other 87 74 80 ((texts zs ++ (10 ∷ [])) ++ rest) (λ (e : _≡_ {A = ℕ} 80 87). omega (arith, e))
+
+-- ---- a grid's columns and rows
+few : (n : ℕ) (xs : List Float) → length (take n xs) ≤ n
+few n xs = omega (arith, length-take n xs)
+
+module _ (a : List ℕ) (n : ℕ) (at : length a ≡ 74 * n + 34) (m : Memory) where
+  grid-columns : (b : Bool) → (b ≡ true → WholeMemory m) → columnsOf (a ++ cond b (memoryLines m) []) n ≡ cond b (length (widths m)) 0
+  unfolding columnsOf memoryLines
+  grid-columns true w = rw (← at) (columns-counted a (widths m) (heights m) (omega (arith, few (m .cols) (m .«col_widths»), w refl .cols)))
+  grid-columns false w = rw (← at) (none-counted 67 32 a)
+
+  grid-rows : (b : Bool) → (b ≡ true → WholeMemory m) → rowsOf (a ++ cond b (memoryLines m) []) n (cond b (length (widths m)) 0) ≡ cond b (length (heights m)) 0
+  unfolding rowsOf memoryLines
+  grid-rows true w = rw (← at) (rows-counted a (widths m) (heights m) (omega (arith, few (m .rows) (m .«row_heights»), w refl .rows)))
+  grid-rows false w = let e : 74 * n + 34 + 18 * 0 ≡ length a = omega (arith, at) in rw e (none-counted 68 128 a)
 
 split-there : (rs : List Record) (cs before : List Cell) (c : Cell) (after : List Cell) (tail : List ℕ) → cs ≡ before ++ (c ∷ after) → (p : Split 1 rs before c after)
     → widgetLines 1 rs cs ++ tail ≡ p .front ++ (widgetLine (p .number) c ++ (p .back ++ tail))
@@ -85,9 +103,12 @@ split-there rs cs before c after tail e p =
     ∙ append-assoc (p .front) (widgetLine (p .number) c ++ p .back) tail
     ∙ ap (λ (x : List ℕ). p .front ++ x) (append-assoc (widgetLine (p .number) c) (p .back) tail)
 
-module _ (rs : List Record) (o : Outcome) (rest : List ℕ) (all : widgets rs ≡ length (o .cells)) (few : length (o .cells) ≤ 512) (whole : WholeCells 5 (o .cells)) (plate : WholeRect 5 (o .plate)) where
+module _ (grid : Bool) (rs : List Record) (o : Outcome) (memory : grid ≡ true → WholeMemory (o .memory)) (all : widgets rs ≡ length (o .cells)) (room : length (o .cells) ≤ 512) (whole : WholeCells 5 (o .cells)) (plate : WholeRect 5 (o .plate)) where
   abbrev plateLine : List ℕ
   plateLine = line 80 (edges (inTicks 5 (o .plate)))
+
+  abbrev rest : List ℕ
+  rest = cond grid (memoryLines (o .memory)) []
 
   abbrev drawn : List ℕ
   drawn = widgetLines 1 rs (o .cells) ++ (plateLine ++ rest)
@@ -103,34 +124,74 @@ module _ (rs : List Record) (o : Outcome) (rest : List ℕ) (all : widgets rs �
   plate-shown : (i : ℕ) → i < 4 → fieldOf drawn (74 * length (o .cells)) i ≡ getD (edges (inTicks 5 (o .plate))) i (pos 0)
   plate-shown i h = rw (← lines-long 1 rs (o .cells) all) (field-read (widgetLines 1 rs (o .cells)) rest 80 (edges (inTicks 5 (o .plate))) i (edges-small (o .plate) plate [] i h) h)
 
-  pub shows : Shows drawn o
+  abbrev before : List ℕ
+  before = widgetLines 1 rs (o .cells) ++ plateLine
+
+  parted : before ++ rest ≡ drawn
+  parted = append-assoc (widgetLines 1 rs (o .cells)) plateLine rest
+
+  plate-end : length before ≡ 74 * length (o .cells) + 34
+  plate-end = omega (arith, length-append (widgetLines 1 rs (o .cells)) plateLine, lines-long 1 rs (o .cells) all, line-long 80 (edges (inTicks 5 (o .plate))))
+
+  columns-shown : columnsOf drawn (length (o .cells)) ≡ cond grid (length (widths (o .memory))) 0
+  columns-shown = ap (λ (s : List ℕ). columnsOf s (length (o .cells))) (sym parted) ∙ grid-columns before (length (o .cells)) plate-end (o .memory) grid memory
+
+  rows-shown : rowsOf drawn (length (o .cells)) (columnsOf drawn (length (o .cells))) ≡ cond grid (length (heights (o .memory))) 0
+  rows-shown =
+      ap (λ (c : ℕ). rowsOf drawn (length (o .cells)) c) columns-shown
+      ∙ ap (λ (s : List ℕ). rowsOf s (length (o .cells)) (cond grid (length (widths (o .memory))) 0)) (sym parted)
+      ∙ grid-rows before (length (o .cells)) plate-end (o .memory) grid memory
+
+  pub shows : Shows grid drawn o
   shows = record {
-    controls = counted 512 1 rs (o .cells) [] (plateLine ++ rest) all few (plate-next _ rest);
+    controls = counted 512 1 rs (o .cells) [] (plateLine ++ rest) all room (plate-next _ rest);
     cells = cell-shown;
     plate = plate-shown;
+    columns = columns-shown;
+    rows = rows-shown;
   }
 
 -- ---- what is drawn of a text
 module _ (text : List ℕ) (r w : ℕ) (e : checked text 4096 ≡ checked-of.Accepted r w) where
-  pass-shown : (known : Bool) (m : Memory) (sizing : Bool) (rest : List ℕ) → pass 5 (sheetIn text) known m sizing .number ≡ 0
-      → Shows (widgetLines 1 (records text) (pass 5 (sheetIn text) known m sizing .cells) ++ (line 80 (edges (inTicks 5 (pass 5 (sheetIn text) known m sizing .plate))) ++ rest)) (pass 5 (sheetIn text) known m sizing)
-  pass-shown known m sizing rest z =
+  abbrev grid : Bool
+  grid = sheetIn text .«has_grid»
+
+  pass-shown : (known : Bool) (m : Memory) (sizing : Bool) → pass 5 (sheetIn text) known m sizing .number ≡ 0
+      → (grid ≡ true → WholeMemory (pass 5 (sheetIn text) known m sizing .memory)) → Shows grid (acceptedLines grid (records text) (pass 5 (sheetIn text) known m sizing)) (pass 5 (sheetIn text) known m sizing)
+  unfolding acceptedLines
+  pass-shown known m sizing z f =
       let a = all-controls text (no-fault text 4096 r w e) in
       let b = pass-all 5 (sheetIn text) known m sizing z in
       let d = pass-few 5 (sheetIn text) known m sizing in
       let t = room-there text 4096 r w e in
       let v = whole-pass 5 (omega arith) (sheetIn text) (text-whole text) known m sizing z in
-      shows (records text) (pass 5 (sheetIn text) known m sizing) rest (omega (arith, a, b, d)) (omega (arith, a, d, t)) (v .cells) (v .plate)
+      shows grid (records text) (pass 5 (sheetIn text) known m sizing) f (omega (arith, a, b, d)) (omega (arith, a, d, t)) (v .cells) (v .plate)
 
-  list-is : printed (sheetIn text) .number ≡ 0 → listOf text ≡ acceptedLines (sheetIn text .«has_grid») (records text) (printed (sheetIn text))
+  list-is : printed (sheetIn text) .number ≡ 0 → listOf text ≡ acceptedLines grid (records text) (printed (sheetIn text))
   unfolding listOf answered outcomeLines
   list-is z = rw (e, eq-eqb (printed (sheetIn text) .number) 0 z)
 
-  which-shown : (b : Bool) → eqb (passes 5 (sheetIn text) 0 .number) 0 && sheetIn text .«has_grid» ≡ b → printed (sheetIn text) .number ≡ 0
-      → Shows (acceptedLines (sheetIn text .«has_grid») (records text) (printed (sheetIn text))) (printed (sheetIn text))
-  unfolding printed passes acceptedLines
-  which-shown true h z = rw h (pass-shown true _ false _ (rw h at z))
-  which-shown false h z = rw h (pass-shown false emptyMemory true _ (rw h at z))
+  first-accepted : eqb (passes 5 (sheetIn text) 0 .number) 0 && grid ≡ true → passes 5 (sheetIn text) 0 .number ≡ 0
+  first-accepted h = go (eqb (passes 5 (sheetIn text) 0 .number) 0) refl h
+    where
+      go : (b : Bool) → eqb (passes 5 (sheetIn text) 0 .number) 0 ≡ b → b && grid ≡ true → passes 5 (sheetIn text) 0 .number ≡ 0
+      go true t h = eqb-true (passes 5 (sheetIn text) 0 .number) 0 t
+      go false t h = no-such h
 
-  pub drawing-shows : printed (sheetIn text) .number ≡ 0 → Shows (listOf text) (printed (sheetIn text))
-  drawing-shows z = subst (λ (s : List ℕ). Shows s (printed (sheetIn text))) (sym (list-is z)) (which-shown _ refl z)
+  -- the first pass, and the second
+  first-shown : passes 5 (sheetIn text) 0 .number ≡ 0 → Shows grid (acceptedLines grid (records text) (passes 5 (sheetIn text) 0)) (passes 5 (sheetIn text) 0)
+  unfolding passes
+  first-shown z = pass-shown false emptyMemory true z (λ (g : grid ≡ true). first-whole (sheetIn text) (text-whole text) g z)
+
+  second-shown : passes 5 (sheetIn text) 0 .number ≡ 0 → passes 5 (sheetIn text) 1 .number ≡ 0 → Shows grid (acceptedLines grid (records text) (passes 5 (sheetIn text) 1)) (passes 5 (sheetIn text) 1)
+  unfolding passes
+  second-shown one two = pass-shown true (passes 5 (sheetIn text) 0 .memory) false two (λ (g : grid ≡ true). second-whole (sheetIn text) (text-whole text) g one two)
+
+  which-shown : (b : Bool) → eqb (passes 5 (sheetIn text) 0 .number) 0 && grid ≡ b → printed (sheetIn text) .number ≡ 0
+      → Shows grid (acceptedLines grid (records text) (printed (sheetIn text))) (printed (sheetIn text))
+  unfolding printed
+  which-shown true h z = rw h (second-shown (first-accepted h) (rw h at z))
+  which-shown false h z = rw h (first-shown (rw h at z))
+
+  pub drawing-shows : printed (sheetIn text) .number ≡ 0 → Shows grid (listOf text) (printed (sheetIn text))
+  drawing-shows z = subst (λ (s : List ℕ). Shows grid s (printed (sheetIn text))) (sym (list-is z)) (which-shown _ refl z)

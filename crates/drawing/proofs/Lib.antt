@@ -6,6 +6,3 @@ pub mod Layers
 pub mod Room
 pub mod Sizes
 pub mod Lengths
-pub mod OfSheets
-pub mod OfPasses
-pub mod ShownPasses

@@ -3,4 +3,3 @@ pub mod Pieces
 pub mod Pages
 pub mod Drawings
 pub mod Pictures
-pub mod Shown

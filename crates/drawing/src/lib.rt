@@ -6,7 +6,6 @@ mod pages;
 pub mod picture;
 mod rows;
 mod sections;
-pub mod sheets;
 mod writing;
 
 // More than any drawing has.

@@ -2,7 +2,6 @@
 mod handing;
 
 use drawing::MAX_DRAWING;
-use drawing::sheets::draw_sheet;
 use handing::copy_whole;
 use handing::memory_of;
 use handing::put_passed;
@@ -10,6 +9,7 @@ use listing::MAX_LIST;
 use listing::printing::print;
 use listing::printing::settle;
 use sheet::passing::pass;
+use sheet_drawing::draw_sheet;
 ghost use mathlib.Core.Path.{_≡_};
 ghost use Rattle.drawing.specs.Pictures.{drawnIn};
 ghost use Rattle.listing.specs.Lists.{listOf, settled};

@@ -1,7 +1,7 @@
 // Reads a sheet on standard input and writes its plate's drawing, an SVG, to standard output.
 use drawing::MAX_DRAWING;
-use drawing::sheets::draw_sheet;
 use listing::MAX_TEXT;
+use sheet_drawing::draw_sheet;
 
 fn main() {
     let mut text = [0u8; MAX_TEXT];

@@ -1,6 +1,6 @@
 use lib.ListN.{length, length-take}
 use mathlib.Core.Path.{_≡_}
-use Rattle.drawing.proofs.OfSheets.{same-room}
+use Rattle.sheet_drawing.proofs.OfSheets.{same-room}
 use native.Mathlib.Omega.{arith}
 use borrow.Author.Needs.{needs}
 use Rattle.platedraw.proofs.main.Statement.{statement}

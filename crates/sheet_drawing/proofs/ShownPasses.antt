@@ -35,10 +35,10 @@ use Rattle.listing.specs.Putting.{WholeMemory}
 use Rattle.listing.proofs.Memories.{first-whole, second-whole}
 use Rattle.listing.proofs.Places.{all-controls}
 use Rattle.listing.proofs.Texts.{ticks-are}
 use Rattle.drawing.specs.Pieces.{fieldOf}
-use Rattle.drawing.specs.Shown.{Shows}
+use Rattle.sheet_drawing.specs.Shown.{Shows}
 use Rattle.drawing.specs.Pages.{columnsOf, rowsOf}
-use Rattle.drawing.proofs.OfPasses.{Ends, ends-other, columns-counted, rows-counted, none-counted, counted, Split, split, widgetLine, field-read, widget-line, no-widget, one-less, none-less, some-left, no-lines, line-long}
+use Rattle.sheet_drawing.proofs.OfPasses.{Ends, ends-other, columns-counted, rows-counted, none-counted, counted, Split, split, widgetLine, field-read, widget-line, no-widget, one-less, none-less, some-left, no-lines, line-long}
 
 -- ---- whole ticks are small enough to be read
 tick-small : (x : Float) → Edge 5 x → natAbs (ticks 5 x) ≤ 9999999

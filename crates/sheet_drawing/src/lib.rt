@@ -1,12 +1,12 @@
 // The drawing of a sheet: that of the list that is printed of it.
-use crate::MAX_DRAWING;
-use crate::picture::draw;
+use drawing::MAX_DRAWING;
+use drawing::picture::draw;
 use listing::MAX_LIST;
 use listing::printing::print;
 ghost use mathlib.Core.Path.{_≡_};
 ghost use Prim.Native.Nat.{_≤_};
 ghost use Rattle.listing.specs.Lists.{listOf};
 ghost use Rattle.drawing.specs.Pictures.{drawnIn};
 
 // Writes the drawing from the slice's start, and answers its length. The rest of the slice stays as it was.
 pub fn draw_sheet(text: &[u8], out: &mut [u8; MAX_DRAWING]) -> usize

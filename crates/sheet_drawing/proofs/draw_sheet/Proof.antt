@@ -1,12 +1,12 @@
 use Rattle.listing.proofs.Printed.{same-room as list-room}
 use lib.ListN.{length-take}
-use Rattle.drawing.proofs.OfSheets.{list-written}
+use Rattle.sheet_drawing.proofs.OfSheets.{list-written}
 use lib.ListN.{length}
 use mathlib.Core.Path.{_≡_}
 use native.Mathlib.Omega.{arith}
 use borrow.Author.Needs.{needs}
-use Rattle.drawing.proofs.sheets.draw_sheet.Statement.{statement}
-use Rattle.drawing.proofs.sheets.draw_sheet.Tie as tie
+use Rattle.sheet_drawing.proofs.draw_sheet.Statement.{statement}
+use Rattle.sheet_drawing.proofs.draw_sheet.Tie as tie
 
 print-requires : tie.Need-print-requires
 print-requires c κs = search needs

@@ -1,17 +1,17 @@
 -- Pieces one after the other: what was written after each function's return, and a turn of each loop. Assumes nothing.
-use Prim.Native.Nat.{ℕ, zero, suc, _+_, _*_, _≤_, _<_, _%_, min}
+use Prim.Native.Nat.{ℕ, _+_, _≤_, _<_, min}
 use mathlib.Core.Path.{_≡_, refl, ap, sym, _∙_}
 use mathlib.Core.Bool.{Bool, true, false, cond, _&&_, true≢false}
 use mathlib.Core.List.{List, [], _∷_, _++_}
 use native.Mathlib.Omega.{arith}
 use native.Mathlib.Numerals.{add-one}
-use borrow.Author.Tests.{le-leb, lt-leb, lt-ltb, leb-true, eq-eqb, ne-eqb}
-use lib.Dec.{leb, eqb}
+use borrow.Author.Tests.{le-leb, lt-leb, lt-ltb, leb-true}
+use lib.Dec.{leb}
 use lib.IntN.{ℤ, pos}
 use lib.ListN.{length, getD, drop, set, drop-of-length-le}
 use lib.Seq.{sets, drop-cons}
 use Rattle.text.specs.Fields.{text, columns, hasText, writtenAt}
-use Rattle.drawing.specs.Pieces.{Put, emit, emits, ink, inked, marked, unmarked, part, next, filledFrom, filled}
+use Rattle.drawing.specs.Pieces.{Put, emit, emits, ink, inked, part, next, filledFrom}
 
 pub emits-append : (xs ys : List (List ℕ)) (p : Put) → emits (xs ++ ys) p ≡ emits ys (emits xs p)
 unfolding emits

@@ -1,11 +1,11 @@
 -- Lines counted, and the page's numbers: a turn of each loop, what each return answers, and that nothing is too large to reckon with.
 -- Assumes nothing.
 use Prim.Native.Nat.{ℕ, zero, suc, _+_, _-_, _*_, _/_, _≤_, _<_, max, min}
-use mathlib.Core.Path.{_≡_, refl, ap, sym, _∙_}
-use mathlib.Core.Bool.{Bool, true, false, cond, _&&_, true≢false}
+use mathlib.Core.Path.{_≡_, refl, sym}
+use mathlib.Core.Bool.{Bool, true, false, _&&_, true≢false}
 use mathlib.Core.List.{List}
 use native.Mathlib.Omega.{arith}
-use native.Mathlib.Nat.{mul-le-mul, div-le-self, add-zero}
+use native.Mathlib.Nat.{mul-le-mul, div-le-self}
 use borrow.Author.Tests.{le-leb, lt-leb, leb-true}
 use lib.Dec.{leb, ltb, eqb, lit≤}
 use lib.IntN.{ℤ, pos, negsuc, natAbs}
@@ -14,7 +14,7 @@ use Rattle.text.specs.Fields.{negative}
 use Rattle.text.specs.Fields.{fieldAt}
 use Rattle.drawing.specs.Pieces.{valueOf, fieldOf}
 use Rattle.drawing.proofs.Numbers.{field-small}
-use Rattle.drawing.specs.Pages.{biased, placeOf, span, columnsOf, rowsOf, pageFor, isLine, linesFrom, bandsFrom, scaled, sizeOf, stepOf, cut, ruled, Fair, barFrom}
+use Rattle.drawing.specs.Pages.{biased, placeOf, span, columnsOf, rowsOf, pageFor, isLine, linesFrom, bandsFrom, scaled, stepOf, cut, ruled, Fair, barFrom}
 
 -- ---- a number, counted from ten million before zero
 pub biased-low : (z : ℤ) → negative z ≡ true → natAbs z ≤ 9999999 → (10000000 - natAbs z ≡ biased z) × (biased z < 20000000)

@@ -1,15 +1,15 @@
 -- How long a drawing can be: a template is at most as long as its bytes, each number in it eight bytes; so a drawing has room. Assumes
 -- nothing.
-use Prim.Native.Nat.{ℕ, zero, suc, _+_, _*_, _%_, _≤_}
-use mathlib.Core.Path.{_≡_, refl, ap, sym, _∙_}
+use Prim.Native.Nat.{ℕ, _+_, _%_, _≤_}
+use mathlib.Core.Path.{_≡_, refl}
 use mathlib.Core.Bool.{Bool, true, false, cond}
-use mathlib.Core.List.{List, [], _∷_, _++_}
+use mathlib.Core.List.{List, [], _∷_}
 use native.Mathlib.Omega.{arith}
 use lib.Dec.{eqb, lit≤}
 use lib.IntN.{ℤ}
 use lib.ListN.{length, getD}
 use Rattle.text.specs.Fields.{text, columns}
-use Rattle.drawing.specs.Pieces.{fieldOf, ink, inked, numeral, marked, unmarked, part, next, filledFrom, filled, joined}
+use Rattle.drawing.specs.Pieces.{fieldOf, ink, inked, numeral, marked, unmarked, part, next, filledFrom, joined}
 use Rattle.drawing.proofs.Room.{size, size-append}
 
 -- ---- templates

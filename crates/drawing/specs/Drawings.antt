@@ -3,10 +3,8 @@ use Prim.Native.Nat.{ℕ, zero, suc, _+_, _-_, _*_, _/_, _%_}
 use mathlib.Core.Bool.{Bool, true, false, cond, _&&_, _||_}
 use mathlib.Core.List.{List, [], _∷_, _++_}
 use lib.Dec.{leb, ltb, eqb}
-use lib.ListN.{length}
-use lib.Seq.{sets}
-use Rattle.drawing.specs.Pieces.{ascii, filled, joined}
-use Rattle.drawing.specs.Pages.{placeOf, span, isLine, linesFrom, pageFor, px, thickness, bottom, pageWidth, perColumn, rowAcross, rowDown, pageHeight, barFrom, sizeOf}
+use Rattle.drawing.specs.Pieces.{ascii, filled}
+use Rattle.drawing.specs.Pages.{placeOf, span, px, thickness, rowAcross, rowDown, sizeOf}
 use Rattle.drawing.specs.declared.Page.{Page}
 use Rattle.drawing.specs.declared.Layer.{Layer}
 use Rattle.drawing.specs.declared.Layer.the-variants as layer-of

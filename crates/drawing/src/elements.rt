@@ -1,5 +1,4 @@
 // What is drawn for each line of the list, and for each band.
-use crate::Layer;
 use crate::Page;
 use crate::Shared;
 use crate::controls::covers;
@@ -7,17 +6,15 @@ use crate::controls::flat;
 use crate::controls::label_across;
 use crate::controls::label_down;
 use crate::controls::seen;
-use crate::pages::row_across;
-use crate::pages::row_down;
 use crate::pages::size_of;
 use crate::pages::thickness;
 use crate::pages::times;
 use crate::writing::put_filled;
 ghost use mathlib.Core.Path.{_≡_};
 ghost use Prim.Native.Nat.{_+_, _*_, _≤_};
-ghost use Rattle.drawing.specs.Pieces.{Put, emits};
+ghost use Rattle.drawing.specs.Pieces.{emits};
 ghost use Rattle.drawing.specs.Pages.{Fair};
-ghost use Rattle.drawing.specs.Drawings.{columnLines, rowLines, control, outlines, window, wholeWindow, windows, captions, label, labels, widgetRow, plateRow, columnRow, rowRow, one, each};
+ghost use Rattle.drawing.specs.Drawings.{columnLines, rowLines, control, outlines, window, windows, captions, label, labels};
 
 // A column's edges, unless an earlier control had them.
 pub fn put_column_lines(out: &mut [u8], at: usize, page: Page, list: &[u8], k: usize) -> usize

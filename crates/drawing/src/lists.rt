@@ -6,7 +6,7 @@ ghost use mathlib.Core.Path.{_≡_};
 ghost use mathlib.Core.Bool.{true};
 ghost use Prim.Native.Nat.{_+_, _-_, _*_, _≤_, _<_};
 ghost use lib.IntN.{natAbs};
-ghost use Rattle.text.specs.Fields.{fieldAt, hasText};
+ghost use Rattle.text.specs.Fields.{hasText};
 ghost use Rattle.drawing.specs.Pieces.{valueOf, fieldOf};
 ghost use Rattle.drawing.specs.Pages.{biased as biasedBy, placeOf, span as spanOf, isLine, linesFrom};
 

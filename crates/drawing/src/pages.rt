@@ -4,7 +4,7 @@ use crate::lists::count_lines;
 use crate::lists::span;
 ghost use mathlib.Core.Path.{_≡_};
 ghost use Prim.Native.Nat.{_+_, _*_, _/_, _%_, _≤_, _<_, max, min};
-ghost use Rattle.drawing.specs.Pages.{bandsFrom, bandsOf, sizeOf, scaled as scaledBy, cut as cutInto, ruled as ruledBy, pageFor, Fair, px as pxOf, thickness as thicknessOf, bottom as bottomOf, pageWidth, perColumn, rowAcross, rowDown, pageHeight, barFrom};
+ghost use Rattle.drawing.specs.Pages.{bandsFrom, sizeOf, scaled as scaledBy, cut as cutInto, ruled as ruledBy, pageFor, Fair, px as pxOf, thickness as thicknessOf, bottom as bottomOf, pageWidth, perColumn, rowAcross, rowDown, pageHeight, barFrom};
 
 pub fn greater(a: usize, b: usize) -> usize
     ensures { λ r. ⌜ r ≡ max a b ⌝ }

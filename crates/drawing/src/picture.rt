@@ -15,8 +15,8 @@ use crate::sections::put_title;
 use crate::writing::put_filled;
 ghost use mathlib.Core.Path.{_≡_};
 ghost use mathlib.Core.List.{[]};
-ghost use Prim.Native.Nat.{_+_, _*_, _≤_};
-ghost use Rattle.drawing.specs.Pieces.{Put, emits, filled};
+ghost use Prim.Native.Nat.{_*_, _≤_};
+ghost use Rattle.drawing.specs.Pieces.{emits, filled};
 ghost use Rattle.drawing.specs.Pages.{Fair};
 ghost use Rattle.drawing.specs.Pictures.{accepted, reason, numberOf, refusal, drawnFrom, drawnIn};
 

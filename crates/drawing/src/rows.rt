@@ -12,7 +12,7 @@ use crate::pages::row_down;
 use crate::writing::put_filled;
 ghost use mathlib.Core.Path.{_≡_};
 ghost use Prim.Native.Nat.{_+_, _*_, _≤_};
-ghost use Rattle.drawing.specs.Pieces.{Put, emits};
+ghost use Rattle.drawing.specs.Pieces.{emits};
 ghost use Rattle.drawing.specs.Pages.{Fair};
 ghost use Rattle.drawing.specs.Drawings.{widgetRow, plateRow, columnRow, rowRow, one, each};
 

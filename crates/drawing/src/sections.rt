@@ -10,7 +10,7 @@ use crate::rows::put_plate_row;
 use crate::writing::put_filled;
 ghost use mathlib.Core.Path.{_≡_};
 ghost use Prim.Native.Nat.{_+_, _*_, _≤_};
-ghost use Rattle.drawing.specs.Pieces.{Put, emits};
+ghost use Rattle.drawing.specs.Pieces.{emits};
 ghost use Rattle.drawing.specs.Pages.{Fair};
 ghost use Rattle.drawing.specs.Pictures.{style, head, points, title, gridded as griddedIn, shapes, widthLine, heightLine, dimensions, scaleLine, scale, picture, key};
 

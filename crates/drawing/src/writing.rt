@@ -4,11 +4,10 @@ use text::fields::write_field;
 ghost use mathlib.Core.Path.{_≡_};
 ghost use mathlib.Core.Bool.{true};
 ghost use mathlib.Core.List.{_∷_, []};
-ghost use Prim.Native.Nat.{_+_, _*_, _≤_, _<_, _%_};
-ghost use lib.ListN.{length, getD};
-ghost use lib.IntN.{pos};
+ghost use Prim.Native.Nat.{_+_, _≤_, _<_, _%_};
+ghost use lib.ListN.{getD};
 ghost use Rattle.text.specs.Fields.{text as textOf, hasText};
-ghost use Rattle.drawing.specs.Pieces.{Put, emit, emits, ink, inked, marked as markedAs, unmarked, part, next as nextOf, filled, numeral as numeralOf};
+ghost use Rattle.drawing.specs.Pieces.{emit, emits, ink, inked, marked as markedAs, unmarked, part, next as nextOf, filled, numeral as numeralOf};
 
 fn put_byte(out: &mut [u8], at: usize, b: u8) -> usize
     ensures { λ r. ⌜ record { at = r; out = now (out .exit) } ≡ emit (b ∷ []) (record { at = at; out = now (out .entry) }) ⌝ }

@@ -18,10 +18,9 @@ use Rattle.grid.specs.declared.Memory.{Memory}
 use Rattle.text.specs.Lines.{texts, line}
 use Rattle.records.specs.Sheets.{records, widget, widgets, checked}
 use Rattle.records.specs.declared.Record.{Record}
-use Rattle.records.specs.declared.Checked.{Checked}
 use Rattle.records.specs.declared.Checked.the-variants as checked-of
 use Rattle.sheet.specs.Pass.{Cell, Outcome, pass, passes}
-use Rattle.sheet.specs.PriceClause.{WholeCells, none, more}
+use Rattle.sheet.specs.PriceClause.{WholeCells, more}
 use Rattle.sheet.specs.Sheets.{ticks, inTicks}
 use Rattle.sheet.specs.Slices.{edges, eight}
 use Rattle.sheet.specs.Texts.{sheetIn}

@@ -16,15 +16,15 @@ use Rattle.records.specs.Sheets.{checked}
 use Rattle.records.specs.declared.Checked.{Checked}
 use Rattle.records.specs.declared.Checked.the-variants as checked-of
 use Rattle.sheet.specs.Pass.{Ran, Outcome, plateOf, refusedAt, remembered, outcomeOf, pass}
-use Rattle.sheet.specs.Sheets.{inTicks}
+use Rattle.sheet.specs.Ticks.{inTicks}
 use Rattle.sheet.specs.Texts.{sheetIn}
 use Rattle.sheet.specs.Slices.{edges, laidOf, passedOf, LaidOut, judged, laid}
 use Rattle.sheet.specs.declared.Laid.{Laid}
 use Rattle.sheet.specs.declared.Laid.the-variants.{Accepted, Refused}
 use Rattle.sheet.specs.declared.Passed.{Passed}
-use Rattle.sheet.proofs.TextTicks.{zero-rect, text-whole}
-use Rattle.sheet.proofs.WholeEdges.{whole-pass}
-use Rattle.sheet.proofs.CallClause.{some-number}
+use Rattle.price_clause.proofs.TextTicks.{zero-rect, text-whole}
+use Rattle.price_clause.proofs.WholeEdges.{whole-pass}
+use Rattle.sheet.proofs.Shown.{some-number}
 use Rattle.listing.specs.Lists.{settledFrom, settled}
 use Rattle.embed.specs.Calls.{Handed, handed}
 use Rattle.embed.specs.Handing.{numberOf, recordOf}

@@ -8,7 +8,7 @@ use lib.ListN.{length}
 use lib.Seq.{sets}
 use lib.Ieee.{Float}
 use Rattle.grid.specs.declared.Memory.{Memory}
-use Rattle.sheet.specs.Sheets.{inTicks}
+use Rattle.sheet.specs.Ticks.{inTicks}
 use Rattle.sheet.specs.Slices.{edges, LaidOut, laid}
 use Rattle.listing.specs.Lists.{listOf}
 

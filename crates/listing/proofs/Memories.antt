@@ -12,11 +12,12 @@ use Rattle.grid.specs.Grids.{knownMemory}
 use Rattle.grid.specs.declared.Memory.{Memory}
 use Rattle.model.proofs.Embedding.{Upto, empty, upto}
 use Rattle.model.proofs.Ticks.{len}
-use Rattle.sheet.specs.Pass.{Sheet, Ran, begun, headed, ranWith, plateOf, remembered, refusedAt, outcomeOf, pass, passes}
-use Rattle.sheet.specs.Sheets.{WholeSheet}
+use Rattle.sheet.specs.Pass.{Sheet, Ran, begun, headed, ranWith, plateOf, remembered, refusedAt, outcomeOf, pass}
+use Rattle.price_clause.specs.Passes.{passes}
+use Rattle.price_clause.specs.Sheets.{WholeSheet}
 use Rattle.sheet.proofs.Passes.{grid-pass}
-use Rattle.sheet.proofs.Listed.{Listed, listed-empty, listed-sound}
-use Rattle.sheet.proofs.FurtherPasses.{gives-back, memory-kept}
+use Rattle.price_clause.proofs.Listed.{Listed, listed-empty, listed-sound}
+use Rattle.price_clause.proofs.FurtherPasses.{gives-back, memory-kept}
 use Rattle.listing.specs.Putting.{Whole, none, more, WholeMemory}
 
 ticks-whole : (ns : List ℕ) → Upto (most 5) ns → Whole (map (len 5) ns)

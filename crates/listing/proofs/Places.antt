@@ -24,7 +24,7 @@ use Rattle.records.proofs.Reached.{records-step}
 use Rattle.sheet.specs.Pass.{Sheet, Ran, Stepped, called, followed, stepped, runFrom, headed, gridded, begun, ranWith, plateOf, remembered, refusedAt, outcomeOf, pass}
 use Rattle.sheet.specs.Texts.{stepsOf, noHeading, afterHeading, sheetOf, sheetIn}
 use Rattle.sheet.specs.Slices.{judged, laid}
-use Rattle.sheet.specs.CallClause.{controls}
+use Rattle.sheet.specs.Slices.{controls}
 use Rattle.sheet.proofs.WalkedPasses.{no-such, NoFault}
 use Rattle.listing.specs.Putting.{isGrid, hasGrid}
 

@@ -18,7 +18,7 @@ use Rattle.records.specs.Records.{rest, nextAt}
 use Rattle.records.proofs.Places.{next-is-rest}
 use Rattle.text.specs.Lines.{line, haveTexts, lineAt}
 use Rattle.grid.specs.Memories.{widths, heights}
-use Rattle.sheet.specs.Sheets.{ticks, inTicks}
+use Rattle.sheet.specs.Ticks.{ticks, inTicks}
 use Rattle.sheet.specs.Slices.{edges}
 use Rattle.sheet.specs.declared.Laid.{Laid}
 use Rattle.sheet.specs.declared.Laid.the-variants.{Accepted, Refused}

@@ -16,14 +16,15 @@ use Rattle.grid.specs.declared.Memory.{Memory}
 use Rattle.records.specs.Sheets.{checked}
 use Rattle.records.specs.declared.Checked.{Checked}
 use Rattle.records.specs.declared.Checked.the-variants as checked-of
-use Rattle.sheet.specs.Pass.{Outcome, refusedAt, pass, passes}
+use Rattle.sheet.specs.Pass.{Outcome, refusedAt, pass}
+use Rattle.price_clause.specs.Passes.{passes}
 use Rattle.sheet.specs.Texts.{sheetIn}
 use Rattle.sheet.specs.Slices.{LaidOut, written, laidOf, passedOf, judged, laid}
 use Rattle.sheet.specs.Passing.{Room, Known}
-use Rattle.sheet.specs.CallClause.{Called}
+use Rattle.sheet.specs.Slices.{Called}
 use Rattle.sheet.specs.declared.Passed.{Passed}
 use Rattle.sheet.proofs.WalkedPasses.{no-such, no-fault}
-use Rattle.sheet.proofs.CallClause.{some-number}
+use Rattle.sheet.proofs.Shown.{some-number}
 use Rattle.listing.specs.Lists.{printed, settledFrom, settled, listOf}
 use Rattle.listing.specs.Putting.{Put, isAccepted, hasGrid, Printable, putPassed, numberOf}
 use Rattle.listing.proofs.Written.{after}

@@ -15,7 +15,7 @@ use Rattle.layout.specs.Steps.{WholeRect}
 use Rattle.text.specs.Fields.{hasText}
 use Rattle.text.specs.Lines.{haveTexts}
 use Rattle.sheet.specs.Pass.{Cell}
-use Rattle.sheet.specs.Sheets.{ticks, inTicks}
+use Rattle.sheet.specs.Ticks.{ticks, inTicks}
 use Rattle.sheet.specs.Slices.{edges, eight}
 
 pub count-text : (n : ℕ) → n < 100000000 → hasText (pos n) ≡ true

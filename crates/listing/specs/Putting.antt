@@ -20,7 +20,7 @@ use Rattle.text.specs.Lines.{line, haveTexts}
 use Rattle.sheet.specs.declared.Laid.{Laid}
 use Rattle.sheet.specs.declared.Laid.the-variants as laid-of
 use Rattle.sheet.specs.declared.Passed.{Passed}
-use Rattle.sheet.specs.Sheets.{ticks, inTicks}
+use Rattle.sheet.specs.Ticks.{ticks, inTicks}
 use Rattle.sheet.specs.Slices.{edges}
 
 pub record Put : Type 0 where

@@ -12,7 +12,7 @@ ghost use lib.IntN.{pos};
 ghost use lib.ListN.{length, getD, drop};
 ghost use Rattle.emath.specs.Steps.{Edge};
 ghost use Rattle.layout.specs.Steps.{WholeRect};
-ghost use Rattle.sheet.specs.Sheets.{ticks, inTicks};
+ghost use Rattle.sheet.specs.Ticks.{ticks, inTicks};
 ghost use Rattle.sheet.specs.Slices.{edges};
 ghost use Rattle.listing.specs.Putting.{putLine, mark, putWidget, putWidgets, putEntries, putMemory, Whole, WholeMemory};
 

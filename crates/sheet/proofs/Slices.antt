@@ -31,7 +31,7 @@ use Rattle.sheet.specs.Pass as pass-rules
 use Rattle.sheet.specs.Pass.{Sheet, Cell, Ran, Stepped, stepped, followed, runFrom, called, headed, gridded, begun, ranWith, plateOf, remembered, refusedAt, outcomeOf, pass}
 use Rattle.sheet.specs.Texts.{stepsOf, noHeading, afterHeading, sheetOf, sheetIn}
 use Rattle.sheet.specs.Slices.{written, judged, laid}
-use Rattle.sheet.specs.CallClause.{controls}
+use Rattle.sheet.specs.Slices.{controls}
 
 pub written-length : (cs : List Cell) → length (written cs) ≡ 8 * length cs
 unfolding written

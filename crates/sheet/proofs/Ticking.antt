@@ -13,7 +13,7 @@ use lib.Ieee.{Float, binary32, ofBits, mul, inSigned, toSigned}
 use Rattle.emath.specs.Steps.{two, Edge}
 use Rattle.emath.proofs.Casts.{points-to-steps, back32}
 use Rattle.emath.proofs.Sums.{edge-small}
-use Rattle.sheet.specs.Sheets.{ticks}
+use Rattle.sheet.specs.Ticks.{ticks}
 
 thirty-two : ofBits binary32 1107296256 ≡ two 5
 unfolding ofBits

@@ -25,7 +25,7 @@ use Rattle.sheet.specs.Calls.{Moved, placement, stepMoved, recordMoved}
 use Rattle.sheet.specs.Walks.{putAt, Walk, pick, done, walked}
 use Rattle.sheet.proofs.Runs.{widget-placed}
 use Rattle.sheet.proofs.Stepping.{moved-none}
-use Rattle.sheet.proofs.WholeEdges.{cell-whole}
+use Rattle.sheet.proofs.PlacedCells.{cell-whole}
 
 -- ---- a record that is a W, and no other, has a place
 step-placed : (p : Placer) (sp : Vec2) (st : Step) → stepMoved p sp st .placed ≡ widgetStep st

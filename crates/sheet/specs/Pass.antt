@@ -1,14 +1,13 @@
 -- Document 01, "The sheet" and "Turned back": one pass over a sheet's records, by the placer's rules. Where a call rounds, the step is
 -- 1 / 2 ^ k point; a tick is the step at k = 5.
-use Prim.Native.Nat.{ℕ, zero, suc, _+_}
-use mathlib.Core.Bool.{Bool, true, false, cond}
+use Prim.Native.Nat.{ℕ, _+_}
+use mathlib.Core.Bool.{Bool, false, cond}
 use mathlib.Core.List.{List, [], _∷_, _++_}
 use lib.Dec.{eqb}
 use Rattle.emath.specs.Refusals.{least, orElse, lengthFault, extentFault, pairFault, sizeFault, rectFault, edgesFault, outside, frameFault}
 use Rattle.emath.specs.declared.Rect.{Rect}
 use Rattle.emath.specs.declared.Vec2.{Vec2}
 use Rattle.layout.specs.Refusals.{zeroRect}
-use Rattle.grid.specs.Memories.{emptyMemory}
 use Rattle.grid.specs.Operations.{checkedNew}
 use Rattle.grid.specs.declared.Memory.{Memory}
 use Rattle.grid.specs.declared.GridAnswer.{GridAnswer}
@@ -154,9 +153,3 @@ ranWith k s known m sizing p =
 -- a pass over a sheet with a memory (or none) and a sizing flag
 unfoldable pub pass : ℕ → Sheet → Bool → Memory → Bool → Outcome
 pass k s known m sizing = outcomeOf (s .«has_grid») m (begun 1 (headed k (s .heading)) (ranWith k s known m sizing (headed k (s .heading) .placer)))
-
--- ---- passes one after the other
--- the first is without memory and sizing; each later one is given the memory that the last one gave, and is not: pass n, from 0
-unfoldable pub passes : ℕ → Sheet → ℕ → Outcome
-passes k s zero = pass k s false emptyMemory true
-passes k s (suc n) = pass k s true (passes k s n .memory) false

@@ -1,5 +1,6 @@
 -- Document 01, "The sheet" and "Turned back": one pass over a text, with a lent slice for the rectangles. Ticks: k = 5.
-use Prim.Native.Nat.{ℕ}
+use Prim.Native.Nat.{ℕ, _+_}
+use mathlib.Core.Path.{_≡_}
 use mathlib.Core.Bool.{Bool, cond}
 use mathlib.Core.List.{List, [], _∷_, _++_}
 use lib.Dec.{eqb}
@@ -7,7 +8,8 @@ use lib.IntN.{ℤ}
 use lib.ListN.{length}
 use lib.Seq.{sets}
 use Rattle.grid.specs.declared.Memory.{Memory}
-use Rattle.records.specs.Sheets.{checked}
+use Rattle.records.specs.Sheets.{checked, widgetStep}
+use Rattle.records.specs.declared.Step.{Step}
 use Rattle.records.specs.declared.Checked.{Checked}
 use Rattle.records.specs.declared.Checked.the-variants.{Accepted, Refused}
 use Rattle.sheet.specs.declared.Laid.{Laid}
@@ -15,7 +17,7 @@ use Rattle.sheet.specs.declared.Laid.the-variants as laid-of
 use Rattle.sheet.specs.declared.Passed.{Passed}
 use Rattle.sheet.specs.Pass.{Cell, Outcome, refusedAt, pass}
 use Rattle.sheet.specs.Texts.{sheetIn}
-use Rattle.sheet.specs.Sheets.{Ticks, inTicks}
+use Rattle.sheet.specs.Ticks.{Ticks, inTicks}
 
 -- "W number k, from 0, fills places 8k to 8k + 7 of a lent i32 slice: frame, then widget, in ticks."
 abbrev pub edges : Ticks → List ℤ
@@ -52,3 +54,13 @@ judged (Accepted records widgets) text known m sizing out = record {
 
 unfoldable pub laid : List ℕ → Bool → Memory → Bool → List ℤ → LaidOut
 laid text known m sizing out = judged (checked text (length out)) text known m sizing out
+
+-- what the call promises: its answer, and the slice at its exit
+pub record Called (text : List ℕ) (known : Bool) (m : Memory) (sizing : Bool) (out : List ℤ) (p : Passed) (exit : List ℤ) : Type 0 where
+  pub answer : p ≡ passedOf (laid text known m sizing out .outcome)
+  pub slice : exit ≡ laid text known m sizing out .slice
+
+-- how many W there are
+unfoldable pub controls : List Step → ℕ
+controls [] = 0
+controls (st ∷ rest) = widgetStep st + controls rest

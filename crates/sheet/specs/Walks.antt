@@ -13,7 +13,7 @@ use Rattle.placer.specs.declared.Placer.{Placer}
 use Rattle.placer.specs.declared.BarePlacer.{BarePlacer}
 use Rattle.records.specs.Records.{recordOf, rest}
 use Rattle.sheet.specs.declared.SpotRun.{SpotRun}
-use Rattle.sheet.specs.Sheets.{inTicks}
+use Rattle.sheet.specs.Ticks.{inTicks}
 use Rattle.sheet.specs.Slices.{edges}
 use Rattle.sheet.specs.Calls.{recordMoved}
 

@@ -7,7 +7,7 @@ ghost use lib.ListN.{length};
 ghost use lib.Seq.{sets};
 ghost use Rattle.emath.specs.Steps.{Edge};
 ghost use Rattle.layout.specs.Steps.{WholeRect};
-ghost use Rattle.sheet.specs.Sheets.{ticks};
+ghost use Rattle.sheet.specs.Ticks.{ticks};
 ghost use Rattle.sheet.specs.Walks.{eightOf, putAt};
 
 // An edge that is a whole tick, counted in ticks.

@@ -18,7 +18,7 @@ use Rattle.text.proofs.RoundTrip.{text-is-read}
 use Rattle.records.specs.Sheets.{widget, widgets}
 use Rattle.records.specs.declared.Record.{Record}
 use Rattle.sheet.specs.Pass.{Cell}
-use Rattle.sheet.specs.Sheets.{ticks}
+use Rattle.sheet.specs.Ticks.{ticks}
 use Rattle.sheet.specs.Slices.{eight}
 use Rattle.sheet.proofs.Walking.{at-most-one}
 use Rattle.listing.specs.Lists.{widgetLines, entryLines}

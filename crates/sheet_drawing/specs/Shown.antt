@@ -7,7 +7,7 @@ use lib.IntN.{pos}
 use lib.ListN.{length, getD}
 use Rattle.grid.specs.Memories.{widths, heights}
 use Rattle.sheet.specs.Pass.{Cell, Outcome}
-use Rattle.sheet.specs.Sheets.{inTicks}
+use Rattle.sheet.specs.Ticks.{inTicks}
 use Rattle.sheet.specs.Slices.{edges, eight}
 use Rattle.drawing.specs.Pieces.{fieldOf}
 use Rattle.drawing.specs.Pages.{linesFrom, columnsOf, rowsOf}

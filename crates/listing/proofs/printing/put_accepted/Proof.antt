@@ -1,5 +1,5 @@
 use mathlib.Core.Path.{ap, _∙_}
-use Rattle.sheet.specs.Sheets.{inTicks}
+use Rattle.sheet.specs.Ticks.{inTicks}
 use Rattle.sheet.specs.Slices.{edges}
 use Rattle.listing.specs.Putting.{Put, putLine, putMemory, putAccepted}
 use borrow.Author.Needs.{needs}

@@ -1,0 +1,158 @@
+-- The price clause of grids: of two grid sheets that hold only controls and row ends, without negative spacing, alike but for larger controls
+-- in the second, both accepted in two passes, no frame of the second sheet's second pass starts further left or higher or is narrower or less
+-- tall, and its plate is at least as wide and as tall. Assumes nothing.
+use Prim.Native.Nat.{ℕ, _≤_}
+use mathlib.Core.Path.{_≡_, refl, ap, sym, _∙_, subst}
+use mathlib.Core.Bool.{Bool, true, false}
+use mathlib.Core.List.{List, map, Forall₂}
+use lib.Ieee.{Float}
+use Rattle.emath.specs.Steps.{most}
+use Rattle.grid.specs.Memories.{emptyMemory, widths, heights}
+use Rattle.grid.specs.Grids.{knownMemory}
+use Rattle.grid.specs.declared.Memory.{Memory}
+use Rattle.placer.proofs.Carried.{new-sound}
+use Rattle.records.specs.declared.Heading.{Heading}
+use Rattle.model.proofs.Model as model
+use Rattle.model.proofs.Passes.{accepted}
+use Rattle.model.proofs.Engine.{Spot, Given, Move, Out, HeadF, MemF, memoryF, beginF, runF, passF, firstF, laterF}
+use Rattle.model.proofs.Embedding.{moves, headOf, FineHeading, Fits}
+use Rattle.model.proofs.Ticks.{pt, len}
+use Rattle.model.proofs.Floats.{ops}
+use Rattle.model.proofs.InTicks.{ticks, Frame≤, Plate≤, grids-in-ticks}
+use Rattle.sheet.specs.Pass.{Sheet, Cell, Ran, runFrom, plateOf, pass}
+use Rattle.price_clause.specs.Passes.{passes}
+use Rattle.price_clause.specs.Sheets.{WholeSheet, GrownSheet, NoNegativeSpacing, FrameNoLess, PlateNoLess}
+use Rattle.sheet.specs.Ticks.{inTicks}
+use Rattle.sheet.proofs.Passes.{GridPass, grid-pass, start, gridStart}
+use Rattle.price_clause.proofs.ColumnLaw.{saved-is}
+use Rattle.price_clause.proofs.GridSpots.{edgesOf, givenOf}
+use Rattle.price_clause.proofs.GridSteps.{InGrid}
+use Rattle.price_clause.proofs.GridRun.{always, Counts, outOf, Follows, run-follows}
+use Rattle.price_clause.proofs.GridCounts.{counts-fit, Both, both-counted}
+use Rattle.price_clause.proofs.TickOrders.{frameTicks, frames-no-less, plate-no-less}
+use Rattle.price_clause.proofs.GridHeads.{headOfSheet, begun, begin-spot, begin-given, sheet-headed}
+
+-- nothing but the engine's own tests turns it back
+abbrev yes : Given Float → Spot Float → Move Float → Bool
+yes g = always
+
+abbrev memoryOf : Memory → MemF Float
+memoryOf m = record { cols = widths m; rows = heights m }
+
+abbrev lastRun : ℕ → Sheet → Bool → Memory → Bool → Ran
+lastRun k s known m sizing = runFrom k (s .heading .spacing) 3 (gridStart k s known m sizing) (s .steps)
+
+-- ---- passes
+first-pass : (k : ℕ) (s : Sheet) → s .«has_grid» ≡ true → passes k s 0 .number ≡ 0 → GridPass k s false emptyMemory true
+unfolding passes
+first-pass k s g one = grid-pass k s false emptyMemory true g one
+
+second-pass : (k : ℕ) (s : Sheet) → s .«has_grid» ≡ true → passes k s 1 .number ≡ 0 → GridPass k s true (passes k s 0 .memory) false
+unfolding passes
+second-pass k s g two = grid-pass k s true (passes k s 0 .memory) false g two
+
+-- both are the engine's, from the head h and with the records ms
+record ByEngine (k : ℕ) (s : Sheet) (ms : List model.Step) (h : HeadF Float) : Type 0 where
+  pub one : Out Float (Spot Float)
+  pub two : Out Float (Spot Float)
+  pub first : firstF (ops k) yes h (moves (len k) ms) ≡ accepted one
+  pub second : laterF (ops k) yes h (moves (len k) ms) (memoryF one) ≡ accepted two
+  pub frames : two .frames ≡ map (λ (x : Cell). edgesOf (x .frame)) (passes k s 1 .cells)
+  pub plate : two .last .plate ≡ edgesOf (passes k s 1 .plate)
+
+module _ (k B : ℕ) (l : k ≤ 6) (b : B ≡ most k) (s : Sheet) (ms : List model.Step) (c : Counts k B (s .steps) ms) where
+  module _ (known : Bool) (m : Memory) (sizing : Bool) (p : GridPass k s known m sizing) where
+    starts : InGrid (gridStart k s known m sizing)
+    starts = record { grid = refl; sound = new-sound (start k s known m sizing .region) known m sizing (s .heading .spacing) (s .options .«min_cell_size») (s .options .«max_cell_size») (s .options .«num_columns») (s .options .«start_row») }
+
+    follows : Follows k B l b (s .heading .spacing) 3 3 (gridStart k s known m sizing) (s .steps) ms
+    follows = run-follows k B l b (s .heading .spacing) c 3 (gridStart k s known m sizing) starts (p .run) 3
+
+    -- it is the engine's, from the sheet's head
+    engine-pass : passF (ops k) yes (headOfSheet k s) (moves (len k) ms) sizing (memoryOf (knownMemory known m)) ≡ accepted (outOf (lastRun k s known m sizing))
+    unfolding passF
+    engine-pass =
+        let q = begun k l s known m sizing p in
+        ap (λ (g : Given Float). runF (ops k) g always (beginF (headOfSheet k s)) 3 (moves (len k) ms)) (sym (begin-given k l s known m sizing q))
+        ∙ ap (λ (x : Spot Float). runF (ops k) (givenOf (gridStart k s known m sizing .grid)) always x 3 (moves (len k) ms)) (sym (begin-spot k l s known m sizing q))
+        ∙ follows .accepts
+
+    -- the memory that it gives back
+    memory-is : pass k s known m sizing .memory ≡ lastRun k s known m sizing .placer .grid .«curr_state»
+    memory-is = p .memory ∙ saved-is (lastRun k s known m sizing .placer) (follows .still)
+
+  -- ---- so the first two are
+  module _ (g : s .«has_grid» ≡ true) (one : passes k s 0 .number ≡ 0) (two : passes k s 1 .number ≡ 0) where
+    abbrev given : Memory
+    given = passes k s 0 .memory
+
+    abbrev firstOut : Out Float (Spot Float)
+    firstOut = outOf (lastRun k s false emptyMemory true)
+
+    abbrev secondOut : Out Float (Spot Float)
+    secondOut = outOf (lastRun k s true given false)
+
+    first-is : firstF (ops k) yes (headOfSheet k s) (moves (len k) ms) ≡ accepted firstOut
+    unfolding knownMemory
+    first-is = engine-pass false emptyMemory true (first-pass k s g one)
+
+    given-is : memoryOf given ≡ memoryF firstOut
+    unfolding passes
+    given-is = ap memoryOf (memory-is false emptyMemory true (first-pass k s g one))
+
+    second-is : laterF (ops k) yes (headOfSheet k s) (moves (len k) ms) (memoryF firstOut) ≡ accepted secondOut
+    unfolding knownMemory
+    second-is = ap (λ (m : MemF Float). laterF (ops k) yes (headOfSheet k s) (moves (len k) ms) m) (sym given-is) ∙ engine-pass true given false (second-pass k s g two)
+
+    frames-are : secondOut .frames ≡ map (λ (x : Cell). edgesOf (x .frame)) (passes k s 1 .cells)
+    unfolding passes
+    frames-are = ap (map (λ (x : Cell). edgesOf (x .frame))) (sym (second-pass k s g two .cells))
+
+    plate-is : secondOut .last .plate ≡ edgesOf (passes k s 1 .plate)
+    unfolding passes plateOf
+    plate-is = ap edgesOf (sym (second-pass k s g two .plate))
+
+    by-engine : ByEngine k s ms (headOfSheet k s)
+    by-engine = record { one = firstOut; two = secondOut; first = first-is; second = second-is; frames = frames-are; plate = plate-is }
+
+-- ---- the clause
+head-same : (k : ℕ) (a b : Sheet) → GrownSheet a b → headOfSheet k b ≡ headOfSheet k a
+head-same k a b g = rw (g .heading, g .options)
+
+-- both sheets' records as counts
+counts-of : (k B : ℕ) (l : k ≤ 6) (e : B ≡ most k) (a b : Sheet) → GrownSheet a b → WholeSheet k a → WholeSheet k b → a .«has_grid» ≡ true → passes k a 0 .number ≡ 0 → passes k b 0 .number ≡ 0
+    → Both k B l e (a .steps) (b .steps)
+counts-of k B l e a b g wa wb t n m =
+    let p = first-pass k a t n in
+    let q = first-pass k b (sym (g .grid) ∙ t) m in
+    both-counted k B l e (a .heading .spacing) (g .steps) (wa .steps) (wb .steps) 3 3 (gridStart k a false emptyMemory true) (gridStart k b false emptyMemory true) (p .run)
+    (ap (λ (h : Heading). runFrom k (h .spacing) 3 (gridStart k b false emptyMemory true) (b .steps) .number) (g .heading) ∙ q .run)
+
+-- with the limit of the domain a variable
+module _ (k B : ℕ) (l : k ≤ 6) (e : B ≡ most k) (a b : Sheet) where
+  abbrev Clause : Type 0
+  Clause =
+      Forall₂ Frame≤ (frameTicks k (passes k a 1 .cells)) (frameTicks k (passes k b 1 .cells)) × Plate≤ (ticks k (edgesOf (passes k a 1 .plate))) (ticks k (edgesOf (passes k b 1 .plate)))
+
+  of-engine : (g : model.Heading) → FineHeading B g → {m n : List model.Step} → model.Grown m n → Fits B m → Fits B n → ByEngine k a m (headOf (pt k B) (len k) g) → ByEngine k b n (headOf (pt k B) (len k) g) → Clause
+  of-engine g fine grown fm fn x y =
+      let r = grids-in-ticks k B l e yes g fine grown fm fn (x .one) (x .two) (y .one) (y .two) (x .first) (x .second) (y .first) (y .second) in
+      rw (x .frames, y .frames, x .plate, y .plate) at r
+
+  in-counts : GrownSheet a b → WholeSheet k a → WholeSheet k b → a .«has_grid» ≡ true → NoNegativeSpacing a
+      → passes k a 0 .number ≡ 0 → passes k a 1 .number ≡ 0 → passes k b 0 .number ≡ 0 → passes k b 1 .number ≡ 0 → Clause
+  in-counts g wa wb t n a₀ a₁ b₀ b₁ =
+      let c = counts-of k B l e a b g wa wb t a₀ b₀ in
+      let h = sheet-headed k B l e a wa n (begun k l a false emptyMemory true (first-pass k a t a₀)) in
+      let x = by-engine k B l e a (c .first) (c .counts) t a₀ a₁ in
+      let y = by-engine k B l e b (c .second) (c .counts′) (sym (g .grid) ∙ t) b₀ b₁ in
+      of-engine (h .heading) (h .fine) (c .grown) (counts-fit (c .counts)) (counts-fit (c .counts′))
+      (subst (ByEngine k a (c .first)) (h .is) x) (subst (ByEngine k b (c .second)) (head-same k a b g ∙ h .is) y)
+
+pub grids-grow : (k : ℕ) → k ≤ 6 → (a b : Sheet) → GrownSheet a b → WholeSheet k a → WholeSheet k b → a .«has_grid» ≡ true → NoNegativeSpacing a
+    → passes k a 0 .number ≡ 0 → passes k a 1 .number ≡ 0 → passes k b 0 .number ≡ 0 → passes k b 1 .number ≡ 0
+    → Forall₂ (λ (c d : Cell). FrameNoLess (inTicks k (c .frame)) (inTicks k (d .frame))) (passes k a 1 .cells) (passes k b 1 .cells)
+    × PlateNoLess (inTicks k (passes k a 1 .plate)) (inTicks k (passes k b 1 .plate))
+grids-grow k l a b g wa wb t n a₀ a₁ b₀ b₁ =
+    let r = in-counts k (most k) l refl a b g wa wb t n a₀ a₁ b₀ b₁ in
+    (frames-no-less k (passes k a 1 .cells) (passes k b 1 .cells) (r .0), plate-no-less k (passes k a 1 .plate) (passes k b 1 .plate) (r .1))

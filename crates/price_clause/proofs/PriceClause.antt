@@ -1,0 +1,39 @@
+-- The price clause holds: of every sheet whose lengths are whole steps of 1 to 1/64 point, and so of every sheet that is read from a text.
+-- Assumes nothing.
+use Prim.Native.Nat.{ℕ, suc, _+_, _≤_}
+use mathlib.Core.Path.{_≡_, sym, subst}
+use native.Mathlib.Omega.{arith}
+use Rattle.sheet.specs.Pass.{Sheet}
+use Rattle.price_clause.specs.Passes.{passes}
+use Rattle.price_clause.specs.Sheets.{WholeSheet}
+use Rattle.price_clause.specs.PriceClause.{PriceClause, OfText}
+use Rattle.price_clause.proofs.Strips.{strips-grow}
+use Rattle.price_clause.proofs.Grids.{grids-grow}
+use Rattle.price_clause.proofs.ColumnLaw.{column-law}
+use Rattle.price_clause.proofs.FurtherPasses.{further-passes}
+use Rattle.price_clause.proofs.WholeTops.{always-on-steps, without-K}
+use Rattle.price_clause.proofs.WholeEdges.{whole-pass}
+use Rattle.price_clause.proofs.TextTicks.{text-whole}
+
+-- of any kind of sheets whose lengths are whole steps
+pub clause-of : (k : ℕ) → k ≤ 6 → (Is : Sheet → Type 0) → ((s : Sheet) → Is s → WholeSheet k s) → PriceClause k Is
+clause-of k l Is w = record {
+  strips = λ a b x y g s n known known′ m m′ sizing sizing′ p q. (let r = strips-grow k l a b g (w a x) (w b y) s n known known′ m m′ sizing sizing′ p q in record { frames = r .0; plate = r .1 });
+  grids = λ a b x y g h n p q p′ q′. (let r = grids-grow k l a b g (w a x) (w b y) h n p q p′ q′ in record { frames = r .0; plate = r .1 });
+  columns = λ s x g known m sizing p c h. column-law k (omega arith) s known m sizing (w s x) g p c h;
+  further = λ s x g p q t u n. subst (λ (i : ℕ). passes k s i ≡ passes k s 1) (two-more n) (further-passes k l s (w s x) g p q (suc n));
+  without-K = λ s x g n known m sizing p. without-K k l s (w s x) known m sizing g p n;
+  always = λ s x g known m sizing p. always-on-steps k l s (w s x) known m sizing g p;
+  whole = λ s x known m sizing p. (let r = whole-pass k l s (w s x) known m sizing p in (r .cells, r .plate));
+}
+  where
+    two-more : (n : ℕ) → suc (suc n) ≡ n + 2
+    two-more n = omega arith
+
+-- at any step down to 1/64 point
+pub price-clause-in-steps : (k : ℕ) → k ≤ 6 → PriceClause k (WholeSheet k)
+price-clause-in-steps k l = clause-of k l (WholeSheet k) (λ s w. w)
+
+-- of texts, in ticks
+pub price-clause : PriceClause 5 OfText
+price-clause = clause-of 5 (omega arith) OfText (λ s t. subst (WholeSheet 5) (sym (t .is)) (text-whole (t .text)))

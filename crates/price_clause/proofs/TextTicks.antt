@@ -1,0 +1,163 @@
+-- Every sheet that is read from a text is in whole ticks, whatever the text. Assumes nothing.
+use Prim.Native.Nat.{ℕ, zero, suc, _+_, _*_, _≤_}
+use mathlib.Core.Path.{_≡_, refl, sym}
+use mathlib.Core.Bool.{Bool, true, false, _&&_}
+use lib.Dec.{eqb}
+use mathlib.Core.List.{List, [], _∷_}
+use native.Mathlib.Omega.{arith}
+use lib.IntN.{ℤ, pos, natAbs}
+use lib.Ieee.{ofBits}
+use Rattle.emath.specs.Rectangles.{zeroF}
+use Rattle.emath.specs.Steps.{Edge}
+use Rattle.emath.proofs.Zeros.{val-zero}
+use Rattle.layout.specs.Steps.{WholeRect, WholeSize}
+use Rattle.layout.specs.Rules.{zeroVec}
+use Rattle.layout.specs.Refusals.{zeroRect}
+use Rattle.text.specs.Fields.{fieldAt}
+use Rattle.text.specs.declared.Field.{Field}
+use Rattle.text.specs.declared.Field.the-variants as field
+use Rattle.text.proofs.RoundTrip.{at-is-text}
+use Rattle.records.specs.Parts.{letter, ends, points, inPoints, lengthIn, isLength, lengthValue, countIn, isCount}
+use Rattle.records.specs.Records.{pick, pairFits, layoutFits, maximaFit, isColumns, pairIn, rectIn, headingRecord, optionsIn, gridRecord, stepRecord, widgetRecord, singleRecord, recordOf}
+use Rattle.records.specs.Sheets.{recordsFrom}
+use Rattle.records.specs.declared.Heading.{Heading}
+use Rattle.records.specs.declared.GridOptions.{GridOptions}
+use Rattle.records.specs.declared.Step.{Step}
+use Rattle.records.specs.declared.Step.the-variants.{Widget, Space, RowHeight, MaxWidth, MaxHeight, MinWidth, MinHeight, RowEnd}
+use Rattle.records.specs.declared.Record.{Record}
+use Rattle.records.specs.declared.Record.the-variants as record-of
+use Rattle.price_clause.specs.Sheets.{WholeSteps, WholeSheet}
+use Rattle.sheet.specs.Texts.{stepsOf, noHeading, afterHeading, sheetOf, sheetIn}
+
+zero-edge : Edge 5 zeroF
+unfolding ofBits
+zero-edge = record { steps = pos 0; few = omega arith; is = sym (val-zero 5) }
+
+points-edge : (z : ℤ) → natAbs z ≤ 2097152 → Edge 5 (points z)
+unfolding points
+points-edge z h = record { steps = z; few = h; is = refl }
+
+-- ---- a length of a record
+value-edge : (f : Field) → ((z : ℤ) → f ≡ field.Number z → natAbs z ≤ 2097152) → Edge 5 (lengthValue (inPoints f))
+unfolding inPoints lengthValue
+value-edge field.Blank h = zero-edge
+value-edge (field.Number z) h = points-edge z (h z refl)
+value-edge field.Wrong h = zero-edge
+
+pub length-edge : (s : List ℕ) (i : ℕ) → Edge 5 (lengthValue (lengthIn s i))
+unfolding lengthIn
+length-edge s i = value-edge (fieldAt 2097152 s (1 + 8 * i)) (λ z e. at-is-text 2097152 s (1 + 8 * i) z e .1)
+
+pair-whole : (s : List ℕ) (i : ℕ) → WholeSize 5 (pairIn s i)
+unfolding pairIn
+pair-whole s i = record { x = length-edge s i; y = length-edge s (i + 1) }
+
+rect-whole : (s : List ℕ) → WholeRect 5 (rectIn s)
+unfolding rectIn
+rect-whole s = record { left = pair-whole s 6 .x; top = pair-whole s 6 .y; right = pair-whole s 8 .x; bottom = pair-whole s 8 .y }
+
+-- ---- a record
+pub data WholeRecord : Record → Type 0 where
+  heading : {h : Heading} → WholeRect 5 (h .«max_rect») → WholeSize 5 (h .spacing) → WholeRecord (record-of.Heading h)
+  grid : {g : GridOptions} → WholeSize 5 (g .«min_cell_size») → WholeRecord (record-of.Grid g)
+  step : {st : Step} → WholeSteps 5 (st ∷ []) → WholeRecord (record-of.Step st)
+  wrong : WholeRecord record-of.Wrong
+
+either : (b : Bool) {x y : Record} → WholeRecord x → WholeRecord y → WholeRecord (pick b x y)
+either true p q = p
+either false p q = q
+
+heading-whole : (s : List ℕ) → WholeRecord (headingRecord s)
+unfolding headingRecord
+heading-whole s = either (layoutFits s && (pairFits s 6 && pairFits s 8) && pairFits s 10 && ends s 12) (heading (rect-whole s) (pair-whole s 10)) wrong
+
+options-whole : (s : List ℕ) → WholeSize 5 (optionsIn s .«min_cell_size»)
+unfolding optionsIn
+options-whole s = pair-whole s 0
+
+grid-whole : (s : List ℕ) → WholeRecord (gridRecord s)
+unfolding gridRecord
+grid-whole s = either (pairFits s 0 && maximaFit s && isColumns (countIn s 4 32) && isCount (countIn s 5 127) (pos 0) && ends s 6) (grid (options-whole s)) wrong
+
+step-whole : (s : List ℕ) (n : ℕ) (b : Bool) (st : Step) → WholeSteps 5 (st ∷ []) → WholeRecord (stepRecord s n b st)
+unfolding stepRecord
+step-whole s n b st w = either (b && ends s n) (step w) wrong
+
+widget-whole : (s : List ℕ) → WholeRecord (widgetRecord s)
+unfolding widgetRecord
+widget-whole s = step-whole s 2 (isLength (lengthIn s 0) && isLength (lengthIn s 1)) (Widget (lengthValue (lengthIn s 0)) (lengthValue (lengthIn s 1))) (WholeSteps.control (length-edge s 0) (length-edge s 1) WholeSteps.none)
+
+single-whole : (s : List ℕ) (b : ℕ) → WholeRecord (singleRecord s b)
+unfolding singleRecord
+single-whole s b =
+    let e = length-edge s 0 in
+    let f = isLength (lengthIn s 0) in
+    let x = lengthValue (lengthIn s 0) in
+    either (eqb b 83) (step-whole s 1 f (Space x) (WholeSteps.space e WholeSteps.none))
+    (either (eqb b 82) (step-whole s 1 f (RowHeight x) (WholeSteps.rowHeight e WholeSteps.none))
+    (either (eqb b 76) (step-whole s 1 f (MaxWidth x) (WholeSteps.maxWidth e WholeSteps.none))
+    (either (eqb b 75) (step-whole s 1 f (MaxHeight x) (WholeSteps.maxHeight e WholeSteps.none))
+    (either (eqb b 78) (step-whole s 1 f (MinWidth x) (WholeSteps.minWidth e WholeSteps.none))
+    (either (eqb b 84) (step-whole s 1 f (MinHeight x) (WholeSteps.minHeight e WholeSteps.none)) wrong)))))
+
+pub record-whole : (s : List ℕ) → WholeRecord (recordOf s)
+unfolding recordOf
+record-whole s =
+    either (eqb (letter s) 72) (heading-whole s)
+    (either (eqb (letter s) 71) (grid-whole s)
+    (either (eqb (letter s) 87) (widget-whole s)
+    (either (eqb (letter s) 69) (step-whole s 0 true RowEnd (WholeSteps.rowEnd WholeSteps.none)) (single-whole s (letter s)))))
+
+-- ---- a sheet
+data AllWhole : List Record → Type 0 where
+  none : AllWhole []
+  more : {r : Record} {rs : List Record} → WholeRecord r → AllWhole rs → AllWhole (r ∷ rs)
+
+records-whole : (left : ℕ) (s : List ℕ) → AllWhole (recordsFrom left s)
+unfolding recordsFrom
+records-whole zero s = none
+records-whole (suc left) [] = none
+records-whole (suc left) (b ∷ s) = more (record-whole (b ∷ s)) (records-whole left _)
+
+after-step : {st : Step} {rest : List Step} → WholeSteps 5 (st ∷ []) → WholeSteps 5 rest → WholeSteps 5 (st ∷ rest)
+after-step (WholeSteps.control a b t) r = WholeSteps.control a b r
+after-step (WholeSteps.space e t) r = WholeSteps.space e r
+after-step (WholeSteps.rowHeight e t) r = WholeSteps.rowHeight e r
+after-step (WholeSteps.maxWidth e t) r = WholeSteps.maxWidth e r
+after-step (WholeSteps.maxHeight e t) r = WholeSteps.maxHeight e r
+after-step (WholeSteps.minWidth e t) r = WholeSteps.minWidth e r
+after-step (WholeSteps.minHeight e t) r = WholeSteps.minHeight e r
+after-step (WholeSteps.rowEnd t) r = WholeSteps.rowEnd r
+
+steps-whole : {rs : List Record} → AllWhole rs → WholeSteps 5 (stepsOf rs)
+unfolding stepsOf
+steps-whole none = WholeSteps.none
+steps-whole (more (step w) t) = after-step w (steps-whole t)
+steps-whole (more (heading a b) t) = steps-whole t
+steps-whole (more (grid a) t) = steps-whole t
+steps-whole (more wrong t) = steps-whole t
+
+zero-size : WholeSize 5 zeroVec
+zero-size = record { x = zero-edge; y = zero-edge }
+
+pub zero-rect : WholeRect 5 zeroRect
+zero-rect = record { left = zero-edge; top = zero-edge; right = zero-edge; bottom = zero-edge }
+
+after-whole : (h : Heading) → WholeRect 5 (h .«max_rect») → WholeSize 5 (h .spacing) → {rs : List Record} → AllWhole rs → WholeSheet 5 (afterHeading h rs)
+unfolding afterHeading
+after-whole h a b none = record { rect = a; spacing = b; smallest = zero-size; steps = WholeSteps.none }
+after-whole h a b (more (grid g) t) = record { rect = a; spacing = b; smallest = g; steps = steps-whole t }
+after-whole h a b (more (heading x y) t) = record { rect = a; spacing = b; smallest = zero-size; steps = steps-whole t }
+after-whole h a b (more (step w) t) = record { rect = a; spacing = b; smallest = zero-size; steps = after-step w (steps-whole t) }
+after-whole h a b (more wrong t) = record { rect = a; spacing = b; smallest = zero-size; steps = steps-whole t }
+
+sheet-whole : {rs : List Record} → AllWhole rs → WholeSheet 5 (sheetOf rs)
+unfolding sheetOf
+sheet-whole none = after-whole noHeading zero-rect zero-size none
+sheet-whole (more (heading {h = h} a b) t) = after-whole h a b t
+sheet-whole (more (grid g) t) = after-whole noHeading zero-rect zero-size none
+sheet-whole (more (step w) t) = after-whole noHeading zero-rect zero-size none
+sheet-whole (more wrong t) = after-whole noHeading zero-rect zero-size none
+
+pub text-whole : (text : List ℕ) → WholeSheet 5 (sheetIn text)
+text-whole text = sheet-whole (records-whole 512 text)

@@ -1,0 +1,173 @@
+-- Document 01, "Cases marked P are proved": one table, of what the rules give and what the paper says. Ticks are steps of 1 / 2 ^ 5 point.
+use Prim.Native.Nat.{ℕ, zero, suc}
+use mathlib.Core.Bool.{Bool, true, false, _&&_}
+use lib.Dec.{eqb}
+use mathlib.Core.List.{List, [], _∷_, _++_, map}
+use lib.IntN.{ℤ, pos, negsuc}
+use lib.ListN.{replicate}
+use Rattle.emath.specs.Rectangles.{roundUi, alignOn}
+use Rattle.emath.specs.Steps.{val}
+use Rattle.emath.specs.declared.Align.the-variants.{Center}
+use Rattle.grid.specs.Memories.{widths, heights}
+use Rattle.text.specs.Lines.{line, texts}
+use Rattle.sheet.specs.Pass.{Cell, Outcome}
+use Rattle.price_clause.specs.Passes.{passes}
+use Rattle.sheet.specs.Texts.{sheetIn}
+use Rattle.sheet.specs.Ticks.{Ticks, ticks, inTicks}
+
+-- ---- what a case tells of a pass, in whole numbers: the refusal's number and record (0: none), the plate, each W's frame and widget, the
+-- columns and the rows, in ticks
+abbrev pub edges : Ticks → List ℤ
+edges t = t .left ∷ t .top ∷ t .right ∷ t .bottom ∷ []
+
+unfoldable pub rectangles : List Cell → List ℤ
+rectangles [] = []
+rectangles (c ∷ rest) = edges (inTicks 5 (c .frame)) ++ (edges (inTicks 5 (c .widget)) ++ rectangles rest)
+
+abbrev pub told : Outcome → List ℤ
+told o = pos (o .number) ∷ pos (o .at) ∷ (edges (inTicks 5 (o .plate)) ++ (rectangles (o .cells) ++ (map (ticks 5) (widths (o .memory)) ++ map (ticks 5) (heights (o .memory)))))
+
+pub record Case : Type 0 where
+  pub found : List ℤ
+  pub expected : List ℤ
+
+-- ---- the test: the same whole numbers
+abbrev pub sameZ : ℤ → ℤ → Bool
+sameZ (pos a) (pos b) = eqb a b
+sameZ (pos a) (negsuc b) = false
+sameZ (negsuc a) (pos b) = false
+sameZ (negsuc a) (negsuc b) = eqb a b
+
+unfoldable pub sameAll : List ℤ → List ℤ → Bool
+sameAll [] [] = true
+sameAll [] (y ∷ ys) = false
+sameAll (x ∷ xs) [] = false
+sameAll (x ∷ xs) (y ∷ ys) = sameZ x y && sameAll xs ys
+
+-- ---- records as text
+abbrev pub W : ℤ → ℤ → List ℕ
+W w h = line 87 (w ∷ h ∷ [])
+
+abbrev pub E : List ℕ
+E = line 69 []
+
+-- H: direction, wrap and main align, no justify, cross align 0, a max_rect from 0, the spacings
+abbrev pub H : ℤ → ℤ → ℤ → ℤ → ℤ → ℤ → ℤ → List ℕ
+H direction wrap align right bottom across down =
+    line 72 (direction ∷ wrap ∷ align ∷ pos 0 ∷ pos 0 ∷ pos 0 ∷ pos 0 ∷ pos 0 ∷ right ∷ bottom ∷ across ∷ down ∷ [])
+
+-- G: the minimum cell; maximum and columns blank; start row 0
+abbrev pub G : ℤ → ℤ → List ℕ
+G w h = 71 ∷ (texts (w ∷ h ∷ []) ++ (replicate 24 32 ++ (texts (pos 0 ∷ []) ++ (10 ∷ []))))
+
+unfoldable pub times : ℕ → List ℕ → List ℕ
+times zero s = []
+times (suc n) s = s ++ times n s
+
+-- ---- rectangles in ticks, results
+abbrev pub box : ℤ → ℤ → ℤ → ℤ → Ticks
+box left top right bottom = record { left = left; top = top; right = right; bottom = bottom }
+
+-- without a grid a W's widget is its frame in these cases
+unfoldable pub twiceEach : List Ticks → List ℤ
+twiceEach [] = []
+twiceEach (t ∷ rest) = edges t ++ (edges t ++ twiceEach rest)
+
+abbrev pub without-grid : List Ticks → Ticks → List ℤ
+without-grid frames plate = pos 0 ∷ pos 0 ∷ (edges plate ++ twiceEach frames)
+
+-- pass n of a text, from 0
+abbrev pub pass-of : List ℕ → ℕ → List ℤ
+pass-of text n = told (passes 5 (sheetIn text) n)
+
+-- a refusal's number and record
+abbrev pub refusal-of : List ℕ → List ℤ
+refusal-of text = (pos (passes 5 (sheetIn text) 0 .number) ∷ pos (passes 5 (sheetIn text) 0 .at) ∷ [])
+
+abbrev pub refused : ℕ → ℕ → List ℤ
+refused number at = (pos number ∷ pos at ∷ [])
+
+-- ---- the table
+-- "the strip above"
+abbrev pub the-strip : Case
+the-strip = record {
+  found = pass-of (H (pos 0) (pos 0) (pos 1) (pos 6400) (pos 3200) (pos 256) (pos 128) ++ (W (pos 640) (pos 320) ++ W (pos 320) (pos 480))) 0;
+  expected = without-grid (box (pos 0) (pos 0) (pos 640) (pos 320) ∷ box (pos 896) (pos 0) (pos 1216) (pos 480) ∷ []) (box (pos 0) (pos 0) (pos 1216) (pos 480));
+}
+
+-- "the same H with G 320 160, blanks, start 0; then W 640 160, W 100 161, E, W 200 50: columns 640, 320; rows 161, 160; widgets 0 1 640 161,
+-- 896 0 996 161, 0 344 200 394; plate 0 0 1216 449"
+abbrev pub the-grid : Case
+the-grid = record {
+  found = pass-of
+      (H (pos 0) (pos 0) (pos 1) (pos 6400) (pos 3200) (pos 256) (pos 128) ++ (G (pos 320) (pos 160) ++ (W (pos 640) (pos 160) ++ (W (pos 100) (pos 161) ++ (E ++ W (pos 200) (pos 50)))))) 1;
+  expected = pos 0 ∷ pos 0 ∷ (edges (box (pos 0) (pos 0) (pos 1216) (pos 449))
+      ++ (edges (box (pos 0) (pos 0) (pos 640) (pos 161)) ++ (edges (box (pos 0) (pos 1) (pos 640) (pos 161))
+      ++ (edges (box (pos 896) (pos 0) (pos 1216) (pos 161)) ++ (edges (box (pos 896) (pos 0) (pos 996) (pos 161))
+      ++ (edges (box (pos 0) (pos 289) (pos 640) (pos 449)) ++ (edges (box (pos 0) (pos 344) (pos 200) (pos 394))
+      ++ (pos 640 ∷ pos 320 ∷ pos 161 ∷ pos 160 ∷ []))))))));
+}
+
+-- "one tick centred between -1 and 1 becomes -1 to 1"
+abbrev pub one-tick-centred : Case
+one-tick-centred = record {
+  found = (ticks 5 (roundUi 5 (alignOn Center (val 5 (negsuc 0)) (val 5 (pos 1)) (val 5 (pos 1)) .min)) ∷ ticks 5 (roundUi 5 (alignOn Center (val 5 (negsuc 0)) (val 5 (pos 1)) (val 5 (pos 1)) .max)) ∷ []);
+  expected = (negsuc 0 ∷ pos 1 ∷ []);
+}
+
+-- "half a tick rounds to 1", "minus half to -1"
+abbrev pub half-a-tick : Case
+half-a-tick = record { found = (ticks 5 (roundUi 5 (val 6 (pos 1))) ∷ []); expected = (pos 1 ∷ []) }
+
+abbrev pub minus-half-a-tick : Case
+minus-half-a-tick = record { found = (ticks 5 (roundUi 5 (val 6 (negsuc 0))) ∷ []); expected = (negsuc 0 ∷ []) }
+
+-- "wrap, top-aligned, max_rect 0 0 640 3200, spacing 0, W 320 100 twice: second frame 320 0 640 100"
+abbrev pub twice : Case
+twice = record {
+  found = pass-of (H (pos 0) (pos 1) (pos 0) (pos 640) (pos 3200) (pos 0) (pos 0) ++ (W (pos 320) (pos 100) ++ W (pos 320) (pos 100))) 0;
+  expected = without-grid (box (pos 0) (pos 0) (pos 320) (pos 100) ∷ box (pos 320) (pos 0) (pos 640) (pos 100) ∷ []) (box (pos 0) (pos 0) (pos 640) (pos 100));
+}
+
+-- "second W 321 100: 0 100 321 200"
+abbrev pub one-more : Case
+one-more = record {
+  found = pass-of (H (pos 0) (pos 1) (pos 0) (pos 640) (pos 3200) (pos 0) (pos 0) ++ (W (pos 320) (pos 100) ++ W (pos 321) (pos 100))) 0;
+  expected = without-grid (box (pos 0) (pos 0) (pos 320) (pos 100) ∷ box (pos 0) (pos 100) (pos 321) (pos 200) ∷ []) (box (pos 0) (pos 0) (pos 321) (pos 200));
+}
+
+-- "W 2097152 0 at left 0 with spacing 0 passes"
+abbrev pub at-the-limit : Case
+at-the-limit = record {
+  found = pass-of (H (pos 0) (pos 0) (pos 0) (pos 0) (pos 0) (pos 0) (pos 0) ++ W (pos 2097152) (pos 0)) 0;
+  expected = without-grid (box (pos 0) (pos 0) (pos 2097152) (pos 0) ∷ []) (box (pos 0) (pos 0) (pos 2097152) (pos 0));
+}
+
+-- "with spacing 1 gives 9"
+abbrev pub beyond-the-limit : Case
+beyond-the-limit = record {
+  found = refusal-of (H (pos 0) (pos 0) (pos 0) (pos 0) (pos 0) (pos 1) (pos 0) ++ W (pos 2097152) (pos 0));
+  expected = refused 9 2;
+}
+
+-- "the examples of 7 and 8": "G after H direction 1", "33rd W in a row"
+abbrev pub grid-from-the-right : Case
+grid-from-the-right = record {
+  found = refusal-of (H (pos 1) (pos 0) (pos 0) (pos 0) (pos 0) (pos 0) (pos 0) ++ G (pos 0) (pos 0));
+  expected = refused 7 2;
+}
+
+abbrev pub one-cell-too-many : Case
+one-cell-too-many = record {
+  found = refusal-of (H (pos 0) (pos 0) (pos 0) (pos 0) (pos 0) (pos 0) (pos 0) ++ (G (pos 0) (pos 0) ++ times 33 (W (pos 0) (pos 0))));
+  expected = refused 8 35;
+}
+
+unfoldable pub allHold : List Case → Bool
+allHold [] = true
+allHold (c ∷ rest) = sameAll (c .found) (c .expected) && allHold rest
+
+abbrev pub table : List Case
+table =
+    the-strip ∷ the-grid ∷ one-tick-centred ∷ half-a-tick ∷ minus-half-a-tick ∷ twice ∷ one-more ∷ at-the-limit ∷ beyond-the-limit ∷ grid-from-the-right
+    ∷ one-cell-too-many ∷ []

@@ -1,0 +1,67 @@
+-- Document 01's demand 3, the price clause, sentence by sentence, of the rule of a pass (Pass.antt). It is one statement for two kinds of
+-- sheets: those that are read from a text, in ticks; and, for any step of 1 / 2 ^ k point, those whose lengths are whole steps.
+use mathlib.Core.Path.{_≡_}
+use mathlib.Core.Bool.{Bool, true, false}
+use mathlib.Core.List.{List, [], _∷_, Forall₂}
+use Prim.Native.Nat.{ℕ, _+_, _<_}
+use lib.ListN.{length}
+use Rattle.emath.specs.Rectangles.{zeroF}
+use Rattle.layout.specs.Steps.{WholeRect}
+use Rattle.grid.specs.Memories.{emptyMemory, colWidth}
+use Rattle.grid.specs.declared.Memory.{Memory}
+use Rattle.sheet.specs.Pass.{Sheet, Cell, Outcome, pass}
+use Rattle.price_clause.specs.Passes.{passes}
+use Rattle.price_clause.specs.Sheets.{GrownSheet, NoNegativeSpacing, Strip, FrameNoLess, PlateNoLess}
+use Rattle.sheet.specs.Ticks.{inTicks}
+use Rattle.price_clause.specs.Columns.{inColumn, widest}
+use Rattle.price_clause.specs.Tops.{TopsOnSteps, NoK}
+use Rattle.sheet.specs.Texts.{sheetIn}
+
+-- "A pass is accepted exactly if no number of the table below applies to it"
+abbrev pub Accepted : Outcome → Type 0
+Accepted o = o .number ≡ 0
+
+-- "no frame of the second sheet starts further left or higher or is narrower or less tall, and its plate is at least as wide and as tall":
+-- "Frames are compared by W number", in ticks
+pub record NoLess (k : ℕ) (a b : Outcome) : Type 0 where
+  pub frames : Forall₂ (λ (c d : Cell). FrameNoLess (inTicks k (c .frame)) (inTicks k (d .frame))) (a .cells) (b .cells)
+  pub plate : PlateNoLess (inTicks k (a .plate)) (inTicks k (b .plate))
+
+-- every edge of a W's frame and widget is a whole step of the domain
+pub data WholeCells (k : ℕ) : List Cell → Type 0 where
+  none : WholeCells k []
+  more : {c : Cell} {cs : List Cell} → WholeRect k (c .frame) → WholeRect k (c .widget) → WholeCells k cs → WholeCells k (c ∷ cs)
+
+-- a sheet that was read from a text
+pub record OfText (s : Sheet) : Type 0 where
+  pub text : List ℕ
+  pub is : s ≡ sheetIn text
+
+-- `Is` says which sheets are meant
+pub record PriceClause (k : ℕ) (Is : Sheet → Type 0) : Type 0 where
+  -- two strips, "alike in everything but their controls' sizes, each control of the second being at least as wide and as tall"; a memory
+  -- means nothing to them
+  pub strips : (a b : Sheet) → Is a → Is b → GrownSheet a b → Strip a → NoNegativeSpacing a
+      → (known known′ : Bool) (m m′ : Memory) (sizing sizing′ : Bool) → Accepted (pass k a known m sizing) → Accepted (pass k b known′ m′ sizing′)
+      → NoLess k (pass k a known m sizing) (pass k b known′ m′ sizing′)
+  -- two grids, "being settled by two passes, the first without memory, the second with the first's"
+  pub grids : (a b : Sheet) → Is a → Is b → GrownSheet a b → a .«has_grid» ≡ true → NoNegativeSpacing a
+      → Accepted (passes k a 0) → Accepted (passes k a 1) → Accepted (passes k b 0) → Accepted (passes k b 1) → NoLess k (passes k a 1) (passes k b 1)
+  -- "each column holding cells is, in every accepted pass, exactly as wide as the larger of the minimum and its widest control": with any
+  -- records, any given memory, sizing or not
+  pub columns : (s : Sheet) → Is s → s .«has_grid» ≡ true → (known : Bool) (m : Memory) (sizing : Bool) → Accepted (pass k s known m sizing)
+      → (c : ℕ) → 0 < length (inColumn c 0 (s .steps))
+      → (c < pass k s known m sizing .memory .cols) × (colWidth (pass k s known m sizing .memory) c zeroF ≡ widest (s .options .«min_cell_size» .x) (inColumn c 0 (s .steps)))
+  -- "Where each W of its two passes finds the cursor's top on a whole tick …, all further passes, however many, each given the memory that
+  -- the last one gave, are accepted and give the second pass's rectangles, plate and memory again": pass n + 2, from 0, is the second again
+  pub further : (s : Sheet) → Is s → s .«has_grid» ≡ true → Accepted (passes k s 0) → Accepted (passes k s 1)
+      → TopsOnSteps k s false emptyMemory true → TopsOnSteps k s true (passes k s 0 .memory) false → (n : ℕ) → passes k s (n + 2) ≡ passes k s 1
+  -- "… as always without K"
+  pub without-K : (s : Sheet) → Is s → s .«has_grid» ≡ true → NoK (s .steps) → (known : Bool) (m : Memory) (sizing : Bool)
+      → Accepted (pass k s known m sizing) → TopsOnSteps k s known m sizing
+  -- beyond the demand: with K too, so that `further` holds of every accepted grid sheet
+  pub always : (s : Sheet) → Is s → s .«has_grid» ≡ true → (known : Bool) (m : Memory) (sizing : Bool) → Accepted (pass k s known m sizing)
+      → TopsOnSteps k s known m sizing
+  -- "Every such edge is a whole tick": of frames, widgets and plates
+  pub whole : (s : Sheet) → Is s → (known : Bool) (m : Memory) (sizing : Bool) → Accepted (pass k s known m sizing)
+      → WholeCells k (pass k s known m sizing .cells) × WholeRect k (pass k s known m sizing .plate)

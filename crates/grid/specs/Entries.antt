@@ -17,7 +17,7 @@ unfoldable pub cleared : List Float → ℕ → ℕ → List Float
 cleared xs a zero = xs
 cleared xs a (suc n) = set (cleared xs a n) (a + n) zeroF
 
--- "Resizing fills with 0": the first n of an array, made at least i + 1 by zeros, with the entry at i raised to w
+-- the first n of an array, made at least i + 1 by zeros, with the entry at i raised to w
 unfoldable pub raised : List Float → ℕ → ℕ → Float → List Float
 raised xs n i w = set (cleared xs n (i - n)) i (maxF (entry (take n xs) i zeroF) w)
 
@@ -36,7 +36,7 @@ sameEntries [] (w ∷ ws) = false
 sameEntries (v ∷ vs) [] = false
 sameEntries (v ∷ vs) (w ∷ ws) = eq v w && sameEntries vs ws
 
--- the least number of an entry: 4, 5, and 6 for a "negative remembered width or height"
+-- the least number of an entry: 4, 5, and 6 for a negative "remembered width or height"
 unfoldable pub entriesFault : List Float → ℕ
 entriesFault [] = 0
 entriesFault (v ∷ vs) = lesser (extentFault v) (entriesFault vs)

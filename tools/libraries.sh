@@ -10,8 +10,8 @@ build_libraries() {
     done
     [ ${#old[@]} -gt 0 ] || return 0
     # rt's own statuses mean something else than a script's here.
-    rt check $(needs "${old[@]}") </dev/null || exit 1
-    printf '%s\n' "${old[@]}" | xargs -n 1 -P "${RT_JOBS:-$(nproc)}" tools/library || exit 1
+    tools/in_memory rt check $(needs "${old[@]}") </dev/null || exit 1
+    printf '%s\n' "${old[@]}" | tools/in_memory xargs -n 1 -P "${RT_JOBS:-$(nproc)}" tools/library || exit 1
 }
 
 # What these crates stand on, of this repository.

@@ -40,6 +40,6 @@ build_program() {
     echo "$1 is proved and built first, which takes some minutes" >&2
     # rt takes what it has proved as built: where only the program is gone, its stamp has to go too.
     [ -e "$built" ] || rm -f "$root/target/stamp/$1"
-    (cd "$root" && rt check "$1" </dev/null) >&2
+    (cd "$root" && tools/in_memory rt check "$1" </dev/null) >&2
     touch -c "$built"
 }

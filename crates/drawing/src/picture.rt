@@ -13,6 +13,7 @@ use crate::sections::put_key;
 use crate::sections::put_picture;
 use crate::sections::put_title;
 use crate::writing::put_filled;
+use crate::writing::put_words;
 ghost use mathlib.Core.Path.{_≡_};
 ghost use mathlib.Core.List.{[]};
 ghost use Prim.Native.Nat.{_*_, _≤_};
@@ -35,80 +36,52 @@ fn put_reason(out: &mut [u8], at: usize, list: &[u8], n: usize) -> usize
     ensures { λ r. ⌜ record { at = r; out = now (out .exit) } ≡ emits (filled (reason n) (now (list .entry)) 0 []) (record { at = at; out = now (out .entry) }) ⌝ }
 {
     match n {
-        1 => put_filled(
+        1 => put_words(
             out,
             at,
             b"A record is malformed, out of its place, or has a field out of its range.",
             list,
-            0,
-            &[],
         ),
-        2 => put_filled(
-            out,
-            at,
-            b"The sheet goes on after its 512th record.",
-            list,
-            0,
-            &[],
-        ),
-        3 => put_filled(
+        2 => put_words(out, at, b"The sheet goes on after its 512th record.", list),
+        3 => put_words(
             out,
             at,
             b"There is too little room for the rectangles: each control takes eight places.",
             list,
-            0,
-            &[],
         ),
-        4 => put_filled(
+        4 => put_words(
             out,
             at,
             b"A value is not a number, or is infinite where it may not be.",
             list,
-            0,
-            &[],
         ),
-        5 => put_filled(out, at, b"A length is beyond 65,536 points.", list, 0, &[]),
-        6 => put_filled(
+        5 => put_words(out, at, b"A length is beyond 65,536 points.", list),
+        6 => put_words(
             out,
             at,
             b"A size or a remembered length is negative, or a rectangle is inside out.",
             list,
-            0,
-            &[],
         ),
-        7 => put_filled(
+        7 => put_words(
             out,
             at,
             b"A gap (S) stands in a grid, or a grid runs from right to left or upward.",
             list,
-            0,
-            &[],
         ),
-        8 => put_filled(
+        8 => put_words(
             out,
             at,
             b"The grid is full: it has at most 32 columns and 128 rows.",
             list,
-            0,
-            &[],
         ),
-        9 => put_filled(
+        9 => put_words(
             out,
             at,
             b"The result would lie outside the domain: beyond 65,536 points, or without end.",
             list,
-            0,
-            &[],
         ),
-        10 => put_filled(out, at, b"A computed frame is inside out.", list, 0, &[]),
-        _ => put_filled(
-            out,
-            at,
-            b"This is no printed list of a sheet.",
-            list,
-            0,
-            &[],
-        ),
+        10 => put_words(out, at, b"A computed frame is inside out.", list),
+        _ => put_words(out, at, b"This is no printed list of a sheet.", list),
     }
 }
 
@@ -137,7 +110,7 @@ fn put_refusal(out: &mut [u8], at: usize, list: &[u8], line: usize) -> usize
         &[],
     );
     let words = put_reason(out, title, list, number_of(list, line));
-    put_filled(out, words, b"</text>\n</svg>\n", list, 0, &[])
+    put_words(out, words, b"</text>\n</svg>\n", list)
 }
 
 fn put_drawn(out: &mut [u8], list: &[u8], widgets: usize) -> usize

@@ -8,6 +8,7 @@ use crate::pages::thickness;
 use crate::rows::put_each;
 use crate::rows::put_plate_row;
 use crate::writing::put_filled;
+use crate::writing::put_words;
 ghost use mathlib.Core.Path.{_≡_};
 ghost use Prim.Native.Nat.{_+_, _*_, _≤_};
 ghost use Rattle.drawing.specs.Pieces.{emits};
@@ -17,13 +18,11 @@ ghost use Rattle.drawing.specs.Pictures.{style, head, points, title, gri
 fn put_style(out: &mut [u8], at: usize, list: &[u8]) -> usize
     ensures { λ r. ⌜ record { at = r; out = now (out .exit) } ≡ emits (style (now (list .entry))) (record { at = at; out = now (out .entry) }) ⌝ }
 {
-    put_filled(
+    put_words(
         out,
         at,
         b"<style>\n.plate{fill:#f3e2b3;stroke:#6b4f10}\n.cells{stroke:#5b9bd5}\n.frame{fill:none;stroke:#a0522d}\n.control{fill:#fffdf5;fill-opacity:.55;stroke:#333}\n.flat{fill:none;stroke:#333}\n.plate,.cells,.frame,.control,.flat{stroke-linecap:square}\n.line{fill:none;stroke:#333}\ntext{fill:#111;font-size:13px}\n.title{font-size:18px;font-weight:bold}\n.large,.small,.tiny,.middle{text-anchor:middle}\n.large{font-size:14px;font-weight:bold}\n.small{font-size:10px;font-weight:bold}\n.tiny{font-size:8px;paint-order:stroke;stroke:#fff;stroke-width:2px}\n.row{font-family:monospace;font-size:9.5px}\n</style>\n<rect width=\"100%\" height=\"100%\" fill=\"#fff\"/>\n",
         list,
-        0,
-        &[],
     )
 }
 
@@ -60,16 +59,14 @@ pub fn put_title(out: &mut [u8], at: usize, page: Page, list: &[u8]) -> usize
     requires { ⌜ Fair page ⌝ }
     ensures { λ r. ⌜ record { at = r; out = now (out .exit) } ≡ emits (title page (now (list .entry))) (record { at = at; out = now (out .entry) }) ⌝ }
 {
-    let first = put_filled(
+    let first = put_words(
         out,
         at,
         b"<text class=\"title\" x=\"60\" y=\"34\">Plate ",
         list,
-        0,
-        &[],
     );
     let wide = put_points(out, first, list, page.width);
-    let by = put_filled(out, wide, b" &#215; ", list, 0, &[]);
+    let by = put_words(out, wide, b" &#215; ", list);
     let tall = put_points(out, by, list, page.height);
     let numbers = [page.width, page.height, page.widgets];
     put_filled(
@@ -111,7 +108,7 @@ fn put_shapes(out: &mut [u8], at: usize, page: Page, list: &[u8]) -> usize
     let columns = put_each(out, plate, Layer::ColumnLines, page, list, count);
     let rows = put_each(out, columns, Layer::RowLines, page, list, count);
     let controls = put_each(out, rows, Layer::Outlines, page, list, page.widgets);
-    put_filled(out, controls, b"</g>\n</defs>\n", list, 0, &[])
+    put_words(out, controls, b"</g>\n</defs>\n", list)
 }
 
 fn put_width_line(out: &mut [u8], at: usize, page: Page, list: &[u8]) -> usize
@@ -229,5 +226,5 @@ pub fn put_key(out: &mut [u8], at: usize, page: Page, list: &[u8]) -> usize
     let plate = put_plate_row(out, widgets, page, list);
     let columns = put_each(out, plate, Layer::ColumnRows, page, list, page.columns);
     let rows = put_each(out, columns, Layer::RowRows, page, list, page.rows);
-    put_filled(out, rows, b"</svg>\n", list, 0, &[])
+    put_words(out, rows, b"</svg>\n", list)
 }

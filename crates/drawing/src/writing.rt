@@ -154,3 +154,10 @@ pub fn put_filled(
     }
     end
 }
+
+// A template in which no number stands but the fields of the list's first line.
+pub fn put_words(out: &mut [u8], at: usize, words: &[u8], list: &[u8]) -> usize
+    ensures { λ r. ⌜ record { at = r; out = now (out .exit) } ≡ emits (filled (now (words .entry)) (now (list .entry)) 0 []) (record { at = at; out = now (out .entry) }) ⌝ }
+{
+    put_filled(out, at, words, list, 0, &[])
+}

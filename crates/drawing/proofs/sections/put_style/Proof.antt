@@ -3,28 +3,15 @@ use borrow.Author.Needs.{needs}
 use Rattle.drawing.proofs.sections.put_style.Statement.{statement}
 use Rattle.drawing.proofs.sections.put_style.Tie as tie
 
-slice-aggregate-put-filled : tie.Need-slice-aggregate-put-filled
-slice-aggregate-put-filled c = search needs
-
-slice-aggregate-put-filled-2 : tie.Need-slice-aggregate-put-filled-2
-slice-aggregate-put-filled-2 c = search needs
-
-put-filled-requires : tie.Need-put-filled-requires
-put-filled-requires c κs = search needs
-
-same-length : tie.Need-same-length
-same-length c = search needs
-
 returns : tie.Need-returns
 unfolding style
-returns c = c .before .before .put-filled .ensures
+returns c = c .before .before .put-words .ensures
 
 pub put-style-spec : {M : Type 1} → statement M
 put-style-spec =
     tie.close
     (tie.spec
-    slice-aggregate-put-filled
-    slice-aggregate-put-filled-2
-    put-filled-requires
-    same-length
+    (λ c. search needs)
+    (λ c κs. search needs)
+    (λ c. search needs)
     returns)

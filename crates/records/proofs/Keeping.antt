@@ -1,5 +1,5 @@
 -- What the check keeps: after a sheet without a fault each W's lengths stand in the places of its record. Assumes nothing.
-use Prim.Native.Nat.{ℕ, zero, suc, _+_, _-_, _*_, _≤_, _<_}
+use Prim.Native.Nat.{ℕ, zero, suc, _+_, _-_, _≤_, _<_}
 use mathlib.Core.Path.{_≡_, refl, ap, sym, _∙_, subst}
 use mathlib.Core.List.{List, [], _∷_}
 use mathlib.Core.Bool.{Bool, true, false, _&&_}
@@ -22,7 +22,7 @@ use Rattle.records.proofs.Reached.{Reached, placed-on, stops, none-left
 -- ---- one record: its own two places, no other
 step-length : (ss : List Float) (n : ℕ) (st : Step) → length (storedStep ss n st) ≡ length ss
 unfolding storedStep
-step-length ss n (Widget x y) = length-set (set ss (2 * n) x) (2 * n + 1) y ∙ length-set ss (2 * n) x
+step-length ss n (Widget x y) = length-set (set ss n x) (513 + n) y ∙ length-set ss n x
 step-length ss n (Space x) = refl
 step-length ss n (RowHeight x) = refl
 step-length ss n (MaxWidth x) = refl
@@ -38,50 +38,54 @@ stored-length ss n (Grid g) = refl
 stored-length ss n (Steps st) = step-length ss n st
 stored-length ss n Wrong = refl
 
-other : (i j : ℕ) → j < i → j ≡ i → ⊥
-other i j h e = omega arith
+-- the two places of record m hold the same
+abbrev Same : List Float → List Float → ℕ → Type 0
+Same ss ts m = (getD ss m nan ≡ getD ts m nan) × (getD ss (513 + m) nan ≡ getD ts (513 + m) nan)
 
-step-below : (ss : List Float) (n j : ℕ) (st : Step) → j < 2 * n → getD (storedStep ss n st) j nan ≡ getD ss j nan
+step-below : (ss : List Float) (n m : ℕ) (st : Step) → m < n → n < 513 → Same (storedStep ss n st) ss m
 unfolding storedStep
-step-below ss n j (Widget x y) h = getD-set-other (set ss (2 * n) x) (2 * n + 1) j y nan (other (2 * n + 1) j (omega arith)) ∙ getD-set-other ss (2 * n) j x nan (other (2 * n) j h)
-step-below ss n j (Space x) h = refl
-step-below ss n j (RowHeight x) h = refl
-step-below ss n j (MaxWidth x) h = refl
-step-below ss n j (MaxHeight x) h = refl
-step-below ss n j (MinWidth x) h = refl
-step-below ss n j (MinHeight x) h = refl
-step-below ss n j RowEnd h = refl
+step-below ss n m (Widget x y) h l = (elsewhere m (λ e. omega arith) (λ e. omega arith), elsewhere (513 + m) (λ e. omega arith) (λ e. omega arith))
+  where
+    elsewhere : (j : ℕ) → (j ≡ n → ⊥) → (j ≡ 513 + n → ⊥) → getD (set (set ss n x) (513 + n) y) j nan ≡ getD ss j nan
+    elsewhere j a b = getD-set-other (set ss n x) (513 + n) j y nan b ∙ getD-set-other ss n j x nan a
+step-below ss n m (Space x) h l = (refl, refl)
+step-below ss n m (RowHeight x) h l = (refl, refl)
+step-below ss n m (MaxWidth x) h l = (refl, refl)
+step-below ss n m (MaxHeight x) h l = (refl, refl)
+step-below ss n m (MinWidth x) h l = (refl, refl)
+step-below ss n m (MinHeight x) h l = (refl, refl)
+step-below ss n m RowEnd h l = (refl, refl)
 
-below : (ss : List Float) (n j : ℕ) (r : Record) → j < 2 * n → getD (stored ss n r) j nan ≡ getD ss j nan
+below : (ss : List Float) (n m : ℕ) (r : Record) → m < n → n < 513 → Same (stored ss n r) ss m
 unfolding stored
-below ss n j (Heading g) h = refl
-below ss n j (Grid g) h = refl
-below ss n j (Steps st) h = step-below ss n j st h
-below ss n j Wrong h = refl
+below ss n m (Heading g) h l = (refl, refl)
+below ss n m (Grid g) h l = (refl, refl)
+below ss n m (Steps st) h l = step-below ss n m st h l
+below ss n m Wrong h l = (refl, refl)
 
 -- ---- a W that is in its place says what is kept
 is-widget : (u : List ℕ) → letter u ≡ 87 → recordOf u ≡ widgetRecord u
 unfolding recordOf
 is-widget u h = rw h
 
-stands : (ss : List Float) (n : ℕ) (x y : Float) → 2 * n + 1 < length ss → Steps (Widget x y) ≡ Steps (Widget (getD (stored ss n (Steps (Widget x y))) (2 * n) nan) (getD (stored ss n (Steps (Widget x y))) (2 * n + 1) nan))
+stands : (ss : List Float) (n : ℕ) (x y : Float) → 513 + n < length ss → Steps (Widget x y) ≡ Steps (Widget (getD (stored ss n (Steps (Widget x y))) n nan) (getD (stored ss n (Steps (Widget x y))) (513 + n) nan))
 unfolding stored storedStep
 stands ss n x y h =
-    let l : 2 * n + 1 < length (set ss (2 * n) x) = omega (arith, length-set ss (2 * n) x) in
-    let a : getD (set (set ss (2 * n) x) (2 * n + 1) y) (2 * n) nan ≡ x = getD-set-other (set ss (2 * n) x) (2 * n + 1) (2 * n) y nan (other (2 * n + 1) (2 * n) (omega arith)) ∙ getD-set-same ss (2 * n) x nan (omega arith) in
-    let b : getD (set (set ss (2 * n) x) (2 * n + 1) y) (2 * n + 1) nan ≡ y = getD-set-same (set ss (2 * n) x) (2 * n + 1) y nan l in
+    let l : 513 + n < length (set ss n x) = omega (arith, length-set ss n x) in
+    let a : getD (set (set ss n x) (513 + n) y) n nan ≡ x = getD-set-other (set ss n x) (513 + n) n y nan (λ e. omega arith) ∙ getD-set-same ss n x nan (omega arith) in
+    let b : getD (set (set ss n x) (513 + n) y) (513 + n) nan ≡ y = getD-set-same (set ss n x) (513 + n) y nan l in
     rw (a, b)
 
 not-placed : (n : ℕ) → placed n Wrong ≡ true → ⊥
 unfolding placed
 not-placed n h = let z : _≡_ {A = ℕ} 0 1 = cc in omega arith
 
-says : (u : List ℕ) (ss : List Float) (n : ℕ) → placed n (recordOf u) ≡ true → 2 * n + 1 < length ss → Says u (stored ss n (recordOf u)) n
+says : (u : List ℕ) (ss : List Float) (n : ℕ) → placed n (recordOf u) ≡ true → 513 + n < length ss → Says u (stored ss n (recordOf u)) n
 unfolding widgetRecord stepRecord
 says u ss n p l h = go (isLength (lengthIn u 0) && isLength (lengthIn u 1) && ends u 2) (lengthValue (lengthIn u 0)) (lengthValue (lengthIn u 1)) (is-widget u h)
   where
     go : (b : Bool) (x y : Float) → recordOf u ≡ pick b (Steps (Widget x y)) Wrong
-        → recordOf u ≡ Steps (Widget (getD (stored ss n (recordOf u)) (2 * n) nan) (getD (stored ss n (recordOf u)) (2 * n + 1) nan))
+        → recordOf u ≡ Steps (Widget (getD (stored ss n (recordOf u)) n nan) (getD (stored ss n (recordOf u)) (513 + n) nan))
     go true x y e = rw e (stands ss n x y l)
     go false x y e = absurd (not-placed n (ap (λ (r : Record). placed n r) (sym e) ∙ p))
 
@@ -91,21 +95,24 @@ filled zero s ss n = ss
 filled (suc left) [] ss n = ss
 filled (suc left) (b ∷ s) ss n = filled left (rest (b ∷ s)) (stored ss n (recordOf (b ∷ s))) (n + 1)
 
-filled-below : (left : ℕ) (s : List ℕ) (ss : List Float) (n j : ℕ) → j < 2 * n → getD (filled left s ss n) j nan ≡ getD ss j nan
+filled-below : (left : ℕ) (s : List ℕ) (ss : List Float) (n m : ℕ) → m < n → n + left ≤ 513 → Same (filled left s ss n) ss m
 unfolding filled
-filled-below zero s ss n j h = refl
-filled-below (suc left) [] ss n j h = refl
-filled-below (suc left) (b ∷ s) ss n j h = filled-below left (rest (b ∷ s)) (stored ss n (recordOf (b ∷ s))) (n + 1) j (omega arith) ∙ below ss n j (recordOf (b ∷ s)) h
+filled-below zero s ss n m h l = (refl, refl)
+filled-below (suc left) [] ss n m h l = (refl, refl)
+filled-below (suc left) (b ∷ s) ss n m h l =
+    let later = filled-below left (rest (b ∷ s)) (stored ss n (recordOf (b ∷ s))) (n + 1) m (omega arith) (omega arith) in
+    let now = below ss n m (recordOf (b ∷ s)) h (omega arith) in
+    (later .0 ∙ now .0, later .1 ∙ now .1)
 
-says-same : (u : List ℕ) (ss ts : List Float) (n : ℕ) → getD ts (2 * n) nan ≡ getD ss (2 * n) nan → getD ts (2 * n + 1) nan ≡ getD ss (2 * n + 1) nan → Says u ss n → Says u ts n
-says-same u ss ts n a b h e = h e ∙ rw (a, b)
+says-same : (u : List ℕ) (ss ts : List Float) (n : ℕ) → Same ts ss n → Says u ss n → Says u ts n
+says-same u ss ts n e h w = h w ∙ rw (e .0, e .1)
 
 -- of the record at the front, what the rest leaves as it is
 module _ (left : ℕ) (b : ℕ) (s : List ℕ) (ss : List Float) (n : ℕ) where
-  front-says : placed n (recordOf (b ∷ s)) ≡ true → 2 * n + 1 < length ss → Says (b ∷ s) (filled left (rest (b ∷ s)) (stored ss n (recordOf (b ∷ s))) (n + 1)) n
-  front-says e l =
+  front-says : placed n (recordOf (b ∷ s)) ≡ true → n + 1 + left ≤ 513 → 513 + n < length ss → Says (b ∷ s) (filled left (rest (b ∷ s)) (stored ss n (recordOf (b ∷ s))) (n + 1)) n
+  front-says e few l =
       let mid = stored ss n (recordOf (b ∷ s)) in
-      says-same (b ∷ s) mid (filled left (rest (b ∷ s)) mid (n + 1)) n (filled-below left (rest (b ∷ s)) mid (n + 1) (2 * n) (omega arith)) (filled-below left (rest (b ∷ s)) mid (n + 1) (2 * n + 1) (omega arith)) (says (b ∷ s) ss n e l)
+      says-same (b ∷ s) mid (filled left (rest (b ∷ s)) mid (n + 1)) n (filled-below left (rest (b ∷ s)) mid (n + 1) n (omega arith) few) (says (b ∷ s) ss n e l)
 
 first-placed : (n : ℕ) (r : Record) (rs : List Record) → 0 < n → misplaced n (r ∷ rs) ≡ 0 → placed n r ≡ true
 first-placed n r rs N m = go (placed n r) refl
@@ -114,15 +121,15 @@ first-placed n r rs N m = go (placed n r) refl
     go true e = e
     go false e = absurd (omega (arith, stops n r rs 0 e m))
 
-pub filled-kept : (left : ℕ) (s : List ℕ) (ss : List Float) (n : ℕ) → 0 < n → misplaced n (recordsFrom left s) ≡ 0 → 2 * (n + left) ≤ length ss → Kept left s (filled left s ss n) n
+pub filled-kept : (left : ℕ) (s : List ℕ) (ss : List Float) (n : ℕ) → 0 < n → misplaced n (recordsFrom left s) ≡ 0 → n + left ≤ 513 → length ss ≡ 1026 → Kept left s (filled left s ss n) n
 unfolding Kept recordsFrom filled
-filled-kept zero s ss n N m l = tt
-filled-kept (suc left) [] ss n N m l = tt
-filled-kept (suc left) (b ∷ s) ss n N m l =
+filled-kept zero s ss n N m few l = tt
+filled-kept (suc left) [] ss n N m few l = tt
+filled-kept (suc left) (b ∷ s) ss n N m few l =
     let r = recordOf (b ∷ s) in
     let e : placed n r ≡ true = first-placed n r (recordsFrom left (rest (b ∷ s))) N m in (
-      front-says left b s ss n e (omega arith),
-      filled-kept left (rest (b ∷ s)) (stored ss n r) (n + 1) (omega arith) (placed-on n r (recordsFrom left (rest (b ∷ s))) 0 e m) (omega (arith, stored-length ss n r)),
+      front-says left b s ss n e (omega arith) (omega arith),
+      filled-kept left (rest (b ∷ s)) (stored ss n r) (n + 1) (omega arith) (placed-on n r (recordsFrom left (rest (b ∷ s))) 0 e m) (omega arith) (stored-length ss n r ∙ l),
     )
 
 -- ---- as the check goes through a text
@@ -185,4 +192,4 @@ pub ended-kept : (s : List ℕ) (ss ss₀ : List Float) (at k w left : ℕ) → 
 ended-kept s ss ss₀ at k w left h inv l out =
     let none : recordsFrom left (drop at s) ≡ [] = ap (λ (u : List ℕ). recordsFrom left u) (drop-of-length-le s out) ∙ none-left left in
     let e : ss ≡ filled 512 s ss₀ 1 = filled-ended s ss at k left (filled 512 s ss₀ 1) inv out in
-    subst (λ (z : List Float). Kept 512 s z 1) (sym e) (filled-kept 512 s ss₀ 1 (omega arith) (sym (no-fault s at k w left h none)) (omega arith))
+    subst (λ (z : List Float). Kept 512 s z 1) (sym e) (filled-kept 512 s ss₀ 1 (omega arith) (sym (no-fault s at k w left h none)) (omega arith) l)

@@ -1,5 +1,5 @@
 -- How the check keeps what each W says, by the number of its record, so that it is read once. Nobody has to believe it.
-use Prim.Native.Nat.{ℕ, zero, suc, _+_, _*_}
+use Prim.Native.Nat.{ℕ, zero, suc, _+_}
 use mathlib.Core.Path.{_≡_}
 use mathlib.Core.List.{List, [], _∷_}
 use lib.ListN.{getD, set}
@@ -11,9 +11,9 @@ use Rattle.records.specs.declared.Record.the-variants.{Heading, Grid, St
 use Rattle.records.specs.Parts.{letter}
 use Rattle.records.specs.Records.{recordOf, rest}
 
--- places 2n and 2n + 1 are record n's, where it is a W
+-- record n's width is in place n and its height in place 513 + n, where it is a W
 unfoldable pub storedStep : List Float → ℕ → Step → List Float
-storedStep ss n (Widget x y) = set (set ss (2 * n) x) (2 * n + 1) y
+storedStep ss n (Widget x y) = set (set ss n x) (513 + n) y
 storedStep ss n (Space x) = ss
 storedStep ss n (RowHeight x) = ss
 storedStep ss n (MaxWidth x) = ss
@@ -30,7 +30,7 @@ stored ss n Wrong = ss
 
 -- record n, at the front of the text, says what is kept of it, where it is a W
 abbrev pub Says : List ℕ → List Float → ℕ → Type 0
-Says s ss n = letter s ≡ 87 → recordOf s ≡ Steps (Widget (getD ss (2 * n) nan) (getD ss (2 * n + 1) nan))
+Says s ss n = letter s ≡ 87 → recordOf s ≡ Steps (Widget (getD ss n nan) (getD ss (513 + n) nan))
 
 -- so does each of at most `left` records from there on
 unfoldable pub Kept : ℕ → List ℕ → List Float → ℕ → Type 0

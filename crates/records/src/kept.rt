@@ -4,10 +4,13 @@ use crate::Step;
 use crate::parts::byte;
 use crate::records::read_record;
 ghost use mathlib.Core.Path.{_≡_};
-ghost use Prim.Native.Nat.{_+_, _*_, _≤_, _<_};
+ghost use Prim.Native.Nat.{_+_, _≤_, _<_};
 ghost use lib.ListN.{length, drop};
 ghost use Rattle.records.specs.Records.{recordAt};
 ghost use Rattle.records.specs.Keeping.{storedStep, stored, Says};
+
+// The heights come after all the widths. Side by side, a record's two would be read at once where each was just written alone, and that waits.
+const HEIGHTS: usize = 513;
 
 fn store_step(sizes: &mut [f32], n: usize, st: Step)
     requires { ⌜ (n ≤ 512) × (length (now sizes) ≡ 1026) ⌝ }
@@ -15,8 +18,8 @@ fn store_step(sizes: &mut [f32], n: usize, st: Step)
 {
     match st {
         Step::Widget(x, y) => {
-            sizes[2 * n] = x;
-            sizes[2 * n + 1] = y;
+            sizes[n] = x;
+            sizes[HEIGHTS + n] = y;
         }
         Step::Space(_) => {}
         Step::RowHeight(_) => {}
@@ -48,8 +51,8 @@ pub fn kept_record(text: &[u8], at: usize, sizes: &[f32], n: usize) -> Record
     ensures { λ r. ⌜ r ≡ recordAt (now (text .entry)) at ⌝ }
 {
     if byte(text, at) == b'W' {
-        let width = sizes[2 * n];
-        let height = sizes[2 * n + 1];
+        let width = sizes[n];
+        let height = sizes[HEIGHTS + n];
         return Record::Step(Step::Widget(width, height));
     }
     read_record(text, at)

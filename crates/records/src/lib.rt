@@ -15,7 +15,7 @@ pub const LIMIT: u32 = 2097152;
 
 pub const MAX_RECORDS: usize = 512;
 
-// Two places for each record, from record 1 on.
+// Two places for each record, from record 1 on; place 0 and place 513 stay free.
 pub const KEPT: usize = 1026;
 
 // H.

@@ -12,20 +12,14 @@ byte-requires c κs = search needs
 mul-width : tie.Need-mul-width
 mul-width c = search needs
 
-mul-width-2 : tie.Need-mul-width-2
-mul-width-2 c = search needs
-
 shared-slice-read-width : tie.Need-shared-slice-read-width
 shared-slice-read-width c = search needs
-
-mul-height : tie.Need-mul-height
-mul-height c = search needs
 
 add-height : tie.Need-add-height
 add-height c = search needs
 
-mul-height-2 : tie.Need-mul-height-2
-mul-height-2 c = search needs
+mul-height : tie.Need-mul-height
+mul-height c = search needs
 
 shared-slice-read-height : tie.Need-shared-slice-read-height
 shared-slice-read-height c = search needs
@@ -46,11 +40,9 @@ kept-record-spec =
     (tie.spec
     byte-requires
     mul-width
-    mul-width-2
     shared-slice-read-width
-    mul-height
     add-height
-    mul-height-2
+    mul-height
     shared-slice-read-height
     returns
     read-record-requires

@@ -12,20 +12,14 @@ enum-known-st c = search needs
 mul-sizes : tie.Need-mul-sizes
 mul-sizes c = search needs
 
-mul-sizes-2 : tie.Need-mul-sizes-2
-mul-sizes-2 c = search needs
-
 slice-write-sizes : tie.Need-slice-write-sizes
 slice-write-sizes c = search needs
-
-mul-sizes-3 : tie.Need-mul-sizes-3
-mul-sizes-3 c = search needs
 
 add-sizes : tie.Need-add-sizes
 add-sizes c = search needs
 
-mul-sizes-4 : tie.Need-mul-sizes-4
-mul-sizes-4 c = search needs
+mul-sizes-2 : tie.Need-mul-sizes-2
+mul-sizes-2 c = search needs
 
 slice-write-sizes-2 : tie.Need-slice-write-sizes-2
 slice-write-sizes-2 c = simp length-set (omega arith)
@@ -92,11 +86,9 @@ store-step-spec =
     (tie.spec
     enum-known-st
     mul-sizes
-    mul-sizes-2
     slice-write-sizes
-    mul-sizes-3
     add-sizes
-    mul-sizes-4
+    mul-sizes-2
     slice-write-sizes-2
     enum-told
     enum-told-2

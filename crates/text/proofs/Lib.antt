@@ -6,5 +6,6 @@ pub mod RoundTrip
 pub mod ScanSound
 pub mod Scanned
 pub mod ScanTurns
+pub mod ShortReads
 pub mod Signs
 pub mod LineTexts

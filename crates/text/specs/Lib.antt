@@ -3,3 +3,4 @@ pub mod Fields
 pub mod Lines
 -- How the code reads a field.
 pub mod Scanning
+pub mod Short

@@ -1,5 +1,6 @@
 // A field: a whole number right-justified in eight columns, spaces before it, no leading zeros, no -0.
 use crate::Field;
+use crate::short::short_number;
 ghost use mathlib.Core.Path.{_≡_};
 ghost use Prim.Native.Nat.{_+_, _^_, _≤_, _<_, max};
 ghost use lib.ListN.{length, drop};
@@ -57,7 +58,7 @@ fn put(out: &mut [u8], at: usize, neg: bool, n: u32)
 }
 
 // No number: none of eight digits is so large.
-const NONE: u32 = 4294967295;
+pub(crate) const NONE: u32 = 4294967295;
 
 // The number that the columns from `at` on make, all of them digits.
 fn value(f: &[u8], at: usize) -> u32
@@ -155,7 +156,8 @@ fn spaces(f: &[u8]) -> usize
     i
 }
 
-fn read_columns(f: &[u8], limit: u32) -> Field
+// Any field, column by column.
+fn read_long(f: &[u8], limit: u32) -> Field
     requires { ⌜ 8 ≡ length (now f) ⌝ }
     ensures { λ r. ⌜ r ≡ field limit (now (f .entry)) ⌝ }
 {
@@ -164,6 +166,17 @@ fn read_columns(f: &[u8], limit: u32) -> Field
         return signed(f, i, limit);
     }
     Field::Blank
+}
+
+fn read_columns(f: &[u8], limit: u32) -> Field
+    requires { ⌜ 8 ≡ length (now f) ⌝ }
+    ensures { λ r. ⌜ r ≡ field limit (now (f .entry)) ⌝ }
+{
+    let n = short_number(f);
+    if n != NONE {
+        return plus(n, limit);
+    }
+    read_long(f, limit)
 }
 
 // What the eight columns from `at` hold; wrong where there are fewer.

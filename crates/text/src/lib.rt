@@ -2,6 +2,7 @@
 // of the printed list.
 pub mod fields;
 pub mod lines;
+mod short;
 
 // What eight columns hold.
 pub enum Field {

@@ -100,6 +100,51 @@ fn draw_read(rng: &mut Rng) -> Read {
     }
 }
 
+/// A text of one field.
+fn field(columns: [u8; COLUMNS], limit: u32) -> Read {
+    Read {
+        bytes: columns.to_vec(),
+        len: COLUMNS,
+        at: 0,
+        limit,
+    }
+}
+
+const FOUR: &[u8] = b" -/0123456789:\nW\0\xff";
+
+/// Four blank columns, and any four of these bytes.
+fn short() -> impl Iterator<Item = Read> {
+    let all = FOUR.len().pow(4);
+    (0..2 * all).map(move |n| {
+        let mut columns = [b' '; COLUMNS];
+        let mut rest = n % all;
+        for column in &mut columns[4..] {
+            *column = FOUR[rest % FOUR.len()];
+            rest /= FOUR.len();
+        }
+        field(columns, if n < all { LIMIT_TICKS as u32 } else { 1_000 })
+    })
+}
+
+const FIELDS: [&[u8; COLUMNS]; 6] = [
+    b"    1280",
+    b"     288",
+    b"       0",
+    b"  -12345",
+    b" 2097152",
+    b"        ",
+];
+
+/// Any byte in any column of a few fields.
+fn changed() -> impl Iterator<Item = Read> {
+    let cases = FIELDS.len() * COLUMNS * 256;
+    (0..cases).map(|n| {
+        let mut columns = *FIELDS[n / 256 / COLUMNS];
+        columns[n / 256 % COLUMNS] = n as u8;
+        field(columns, LIMIT_TICKS as u32)
+    })
+}
+
 const READ: [&str; 6] = [
     "wrong",
     "blank",
@@ -129,4 +174,8 @@ pub fn compare(t: &mut Tally) {
         },
     );
     show(t, "field_read", &READ, &counts);
+    let ours = |c: &Read| probe::read_field(c.text(), c.at, c.limit);
+    let theirs = |c: &Read| FieldRead::from(reference::field(c.text(), c.at, c.limit));
+    t.each("field_read, short", short(), ours, theirs);
+    t.each("field_read, a byte changed", changed(), ours, theirs);
 }

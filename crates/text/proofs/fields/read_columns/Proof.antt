@@ -1,23 +1,17 @@
 -- `text::fields::read_columns` meets its contract. Assumes nothing.
 use mathlib.Core.Path.{sym, _∙_}
-use Rattle.text.proofs.ScanTurns.{scan-end, scan-stop}
 use Rattle.text.proofs.Scanned.{scanned}
 use borrow.Author.Needs.{needs}
 use Rattle.text.proofs.fields.read_columns.Statement.{statement}
 use Rattle.text.proofs.fields.read_columns.Tie as tie
 
+plus-requires : tie.Need-plus-requires
+plus-requires c κs = λ h. c .before .short-number .ensures h .0
+
 returns : tie.Need-returns
 returns c =
     let a = c .before .before .before .before in
-    let s = c .before .before .spaces .ensures in
-    c .signed .ensures
-    ∙ scan-stop (a .args .limit) (a .args .f .now) _ _ (s .same (a .args .limit)) (c .before .if1 .taken) (s .stop (c .before .if1 .taken))
-    ∙ scanned (a .args .limit) (a .args .f .now) (sym (a .pre))
-
-returns-2 : tie.Need-returns-2
-returns-2 c =
-    let a = c .before .before .before in
-    scan-end (a .args .limit) (a .args .f .now) _ _ (c .before .spaces .ensures .same (a .args .limit)) (c .if1 .left) ∙ scanned (a .args .limit) (a .args .f .now) (sym (a .pre))
+    c .plus .ensures ∙ c .before .before .short-number .ensures (c .before .if1 .taken) .1 (a .args .limit) ∙ scanned (a .args .limit) (a .args .f .now) (sym (a .pre))
 
 pub read-columns-spec : {M : Type 1} → statement M
-read-columns-spec = tie.close (tie.spec (λ c κs. search needs) (λ c κs. search needs) returns returns-2)
+read-columns-spec = tie.close (tie.spec (λ c κs. search needs) plus-requires returns (λ c κs. search needs) (λ c. search needs))

@@ -13,7 +13,7 @@ use Rattle.text.specs.Scanning.{none, valueFrom, zeroOnly, unsigned, plu
 use Rattle.text.specs.declared.Field.{Field}
 use Rattle.text.specs.declared.Field.the-variants.{Blank}
 
-pub from : (f : List ℕ) (i : ℕ) → i < length f → drop i f ≡ getD f i 0 ∷ drop (i + 1) f
+from : (f : List ℕ) (i : ℕ) → i < length f → drop i f ≡ getD f i 0 ∷ drop (i + 1) f
 from f i h = drop-cons f i 0 h ∙ rw add-one
 
 -- ---- value

@@ -46,7 +46,11 @@ unfoldable pub scan : ℕ → List ℕ → Field
 scan limit [] = Blank
 scan limit (b ∷ s) = pick (eqb b 32) (scan limit s) (signed limit (b ∷ s))
 
--- the columns before r are spaces and the one there is none: what is left is scanned as all are
+-- the columns before r are spaces: what is left is scanned as all are
+abbrev pub Skips : List ℕ → ℕ → Type 0
+Skips f r = (limit : ℕ) → scan limit (drop r f) ≡ scan limit f
+
+-- and the one there is none
 pub record Spaces (f : List ℕ) (r : ℕ) : Type 0 where
   pub stop : r < length f → getD f r 0 ≡ 32 → ⊥
-  pub same : (limit : ℕ) → scan limit (drop r f) ≡ scan limit f
+  pub same : Skips f r

@@ -2,12 +2,7 @@
 use Prim.Native.Nat.{ℕ, _≤_, _<_}
 use mathlib.Core.Path.{_≡_}
 use mathlib.Core.List.{List}
-use lib.ListN.{drop}
 use Rattle.text.specs.Scanning.{plus, scan}
-
--- the columns before r are spaces: what is left is scanned as all are
-abbrev pub Skips : List ℕ → ℕ → Type 0
-Skips f r = (limit : ℕ) → scan limit (drop r f) ≡ scan limit f
 
 -- least is 48, or 49 where a number begins
 abbrev pub Digit : ℕ → ℕ → Type 0
@@ -15,4 +10,4 @@ Digit least b = (least ≤ b) × (b ≤ 57)
 
 -- the columns hold n
 abbrev pub Reads : List ℕ → ℕ → Type 0
-Reads s n = (n < 100000000) × ((limit : ℕ) → plus limit n ≡ scan limit s)
+Reads f n = (n < 100000000) × ((limit : ℕ) → plus limit n ≡ scan limit f)

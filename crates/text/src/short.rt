@@ -2,12 +2,11 @@
 // foreseen.
 use crate::fields::NONE;
 ghost use mathlib.Core.Bool.{true, false, cond};
-ghost use mathlib.Core.List.{[], _∷_};
 ghost use mathlib.Core.Path.{_≡_};
-ghost use Prim.Native.Nat.{_-_, _*_, _≤_, _<_};
+ghost use Prim.Native.Nat.{_+_, _-_, _*_, _≤_, _<_};
 ghost use lib.ListN.{length};
-ghost use Rattle.text.specs.Scanning.{none};
-ghost use Rattle.text.specs.Short.{Digit, Skips, Reads};
+ghost use Rattle.text.specs.Scanning.{none, Skips};
+ghost use Rattle.text.specs.Short.{Digit, Reads};
 
 // Four spaces, the first in the lowest byte.
 const FOUR_SPACES: u32 = 538976288;
@@ -46,23 +45,33 @@ fn thousands(a: u8, blank: bool) -> u32
     if blank { 0 } else { (a - 48) as u32 * 1000 }
 }
 
-// What the last four columns hold.
-fn four_columns(a: u8, b: u8, c: u8, d: u8) -> u32
-    ensures { λ r. ⌜ ((r ≡ none → ⊥) → Reads (a ∷ b ∷ c ∷ d ∷ []) r) ⌝ }
+// What four columns count, the first blank or a digit.
+fn number(a: u8, b: u8, c: u8, d: u8, blank: bool) -> u32
+    requires { ⌜ (blank ≡ false → 48 ≤ a) × (48 ≤ b) × (48 ≤ c) × (48 ≤ d) ⌝ }
+    ensures { λ r. ⌜ r ≡ cond blank 0 (a - 48) * 1000 + (b - 48) * 100 + (c - 48) * 10 + (d - 48) ⌝ }
 {
-    let blank = a == 32;
-    let begins = is_digit(first_column(a, b, blank), 49);
-    if begins & is_digit(b, 48) & (is_digit(c, 48) & is_digit(d, 48)) {
-        return thousands(a, blank) + (b - 48) as u32 * 100 + (c - 48) as u32 * 10 + (d - 48) as u32;
-    }
-    NONE
+    thousands(a, blank) + (b - 48) as u32 * 100 + (c - 48) as u32 * 10 + (d - 48) as u32
 }
 
-// The number of three or four digits that the columns hold; none where they hold something else.
+// The first of them begins the number.
+fn are_digits(first: u8, b: u8, c: u8, d: u8) -> bool
+    ensures { λ r. ⌜ (r ≡ true → Digit 49 first × Digit 48 b × Digit 48 c × Digit 48 d) ⌝ }
+{
+    is_digit(first, 49) & is_digit(b, 48) & (is_digit(c, 48) & is_digit(d, 48))
+}
+
+// Where it answers a number, the columns hold that.
 pub(crate) fn short_number(f: &[u8]) -> u32
     requires { ⌜ 8 ≡ length (now f) ⌝ }
     ensures { λ r. ⌜ ((r ≡ none → ⊥) → Reads (now (f .entry)) r) ⌝ }
 {
-    let n = four_columns(f[4], f[5], f[6], f[7]);
-    if four_spaces(f) { n } else { NONE }
+    let a = f[4];
+    let b = f[5];
+    let c = f[6];
+    let d = f[7];
+    let blank = a == 32;
+    if are_digits(first_column(a, b, blank), b, c, d) & four_spaces(f) {
+        return number(a, b, c, d, blank);
+    }
+    NONE
 }

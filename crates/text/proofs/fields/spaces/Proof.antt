@@ -3,14 +3,14 @@ use Prim.Native.Nat.{ℕ, _-_, _≤_}
 use mathlib.Core.Path.{_≡_, refl}
 use native.Mathlib.Omega.{arith}
 use lib.ListN.{drop, length}
-use Rattle.text.specs.Scanning.{scan}
+use Rattle.text.specs.Scanning.{Skips}
 use Rattle.text.proofs.ScanTurns.{scan-turn}
 use borrow.Author.Needs.{needs}
 use Rattle.text.proofs.fields.spaces.Statement.{statement}
 use Rattle.text.proofs.fields.spaces.Tie as tie
 
 abbrev Inv-loop : tie.InvT-loop
-Inv-loop f i₀ i = (i ≤ length f) × ((limit : ℕ) → scan limit (drop i f) ≡ scan limit f)
+Inv-loop f i₀ i = (i ≤ length f) × Skips f i
 
 abbrev μ-loop : tie.MeasureT-loop
 μ-loop f i₀ i = length f - i

@@ -11,6 +11,7 @@ use listing::printing::settle;
 use sheet::passing::pass;
 use sheet_drawing::draw_sheet;
 ghost use mathlib.Core.Path.{_≡_};
+ghost use Prim.Native.Nat.{_≤_};
 ghost use Rattle.drawing.specs.Pictures.{drawnIn};
 ghost use Rattle.listing.specs.Lists.{listOf, settled};
 ghost use Rattle.embed.specs.Calls.{memoryOf, handed, onePass, listInto};
@@ -56,10 +57,10 @@ pub extern "C" fn platelist_settle(
     put_passed(plate, widths, cols, heights, rows, at, p)
 }
 
-// The list's length; the list itself where the slice has room for all of it.
+// The list's length, at most MAX_LIST; the list itself where the slice has room for all of it.
 #[no_mangle]
 pub extern "C" fn platelist_list(text: &[u8], out: &mut [u8]) -> usize
-    ensures { λ n. ⌜ (n, now (out .exit)) ≡ listInto (now (out .entry)) (now (text .entry)) ⌝ }
+    ensures { λ n. ⌜ ((n, now (out .exit)) ≡ listInto (now (out .entry)) (now (text .entry))) × (n ≤ 40802) ⌝ }
 {
     let mut list: [u8; MAX_LIST] = [0; MAX_LIST];
     let n = print(text, &mut list);
@@ -67,10 +68,10 @@ pub extern "C" fn platelist_list(text: &[u8], out: &mut [u8]) -> usize
     n
 }
 
-// The drawing, an SVG, from the array's start, and its length.
+// The drawing, an SVG, from the array's start, and its length, at most MAX_DRAWING.
 #[no_mangle]
 pub extern "C" fn platelist_draw(text: &[u8], out: &mut [u8; MAX_DRAWING]) -> usize
-    ensures { λ n. ⌜ (n, now (out .exit)) ≡ drawnIn (now (out .entry)) (listOf (now (text .entry))) ⌝ }
+    ensures { λ n. ⌜ ((n, now (out .exit)) ≡ drawnIn (now (out .entry)) (listOf (now (text .entry)))) × (n ≤ 300000) ⌝ }
 {
     draw_sheet(text, out)
 }

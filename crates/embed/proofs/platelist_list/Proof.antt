@@ -28,7 +28,7 @@ same-length c = search needs
 returns : tie.Need-returns
 returns c =
     let p = c .before .before .before .before .before .print .ensures in
-    copied-list _ _ _ _ _ _ (p .0) (omega (arith, ap (λ (x : ℕ × List ℕ). x .0) (p .0), p .1)) (c .before .before .copy-whole .ensures)
+    (copied-list _ _ _ _ _ _ (p .0) (omega (arith, ap (λ (x : ℕ × List ℕ). x .0) (p .0), p .1)) (c .before .before .copy-whole .ensures), p .1)
 
 pub platelist-list-spec : {M : Type 1} → statement M
 platelist-list-spec =

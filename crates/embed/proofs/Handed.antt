@@ -1,5 +1,5 @@
 -- What a pass gives can be handed out: its plate is in whole ticks, refused or not, and where it is accepted its record is 0. Assumes nothing.
-use Prim.Native.Nat.{ℕ, _<_}
+use Prim.Native.Nat.{ℕ}
 use mathlib.Core.Path.{_≡_, refl, ap, sym, _∙_, subst}
 use mathlib.Core.Bool.{Bool, true, false, cond, _&&_}
 use mathlib.Core.List.{List}
@@ -7,41 +7,26 @@ use native.Mathlib.Omega.{arith}
 use lib.Dec.{eqb}
 use lib.IntN.{ℤ}
 use lib.ListN.{length}
-use borrow.Author.Tests.{eqb-true, eqb-false}
-use Rattle.layout.specs.Refusals.{zeroRect}
+use borrow.Author.Tests.{eqb-true}
 use Rattle.layout.specs.Steps.{WholeRect}
 use Rattle.grid.specs.Memories.{emptyMemory}
 use Rattle.grid.specs.declared.Memory.{Memory}
 use Rattle.records.specs.Sheets.{checked}
 use Rattle.records.specs.declared.Checked.{Checked}
 use Rattle.records.specs.declared.Checked.the-variants as checked-of
-use Rattle.sheet.specs.Pass.{Ran, Outcome, plateOf, refusedAt, remembered, outcomeOf, pass}
+use Rattle.sheet.specs.Pass.{Outcome, pass}
 use Rattle.sheet.specs.Ticks.{inTicks}
 use Rattle.sheet.specs.Texts.{sheetIn}
 use Rattle.sheet.specs.Slices.{edges, laidOf, passedOf, LaidOut, judged, laid}
-use Rattle.sheet.specs.declared.Laid.{Laid}
 use Rattle.sheet.specs.declared.Laid.the-variants.{Accepted, Refused}
 use Rattle.sheet.specs.declared.Passed.{Passed}
-use Rattle.price_clause.proofs.TextTicks.{zero-rect, text-whole}
-use Rattle.price_clause.proofs.WholeEdges.{whole-pass}
+use Rattle.price_clause.proofs.TextTicks.{text-whole}
+use Rattle.price_clause.proofs.WholeEdges.{zero-rect, whole-pass}
+use Rattle.sheet.proofs.Passes.{Ended, well, badly, outcome-ends}
 use Rattle.sheet.proofs.Shown.{some-number}
 use Rattle.listing.specs.Lists.{settledFrom, settled}
 use Rattle.embed.specs.Calls.{Handed, handed}
 use Rattle.embed.specs.Handing.{numberOf, recordOf}
-
--- ---- an outcome is accepted, at no record, or has a plate of zeros
-data Ended (o : Outcome) : Type 0 where
-  well : o .number ≡ 0 → o .at ≡ 0 → Ended o
-  badly : 0 < o .number → o .plate ≡ zeroRect → Ended o
-
-outcome-ends : (grid : Bool) (m : Memory) (r : Ran) → Ended (outcomeOf grid m r)
-unfolding outcomeOf
-outcome-ends grid m r = go (eqb (r .number) 0) refl
-  where
-    go : (b : Bool) → eqb (r .number) 0 ≡ b
-        → Ended (cond b (record { number = 0; at = 0; cells = r .cells; plate = plateOf (r .placer); memory = remembered grid m (r .placer) .memory; save = remembered grid m (r .placer) .save }) (refusedAt (r .number) (r .at) (r .cells) m))
-    go true e = well refl refl
-    go false e = badly (omega (arith, eqb-false (r .number) 0 e)) refl
 
 pub record Fit (o : Outcome) : Type 0 where
   pub plate : WholeRect 5 (o .plate)
@@ -52,16 +37,19 @@ module _ (text : List ℕ) (known : Bool) (m : Memory) (sizing : Bool) where
   unfolding pass
   pass-fit = go (outcome-ends _ m _)
     where
+      whole : WholeRect 5 (pass 5 (sheetIn text) known m sizing .plate)
+      whole = whole-pass 5 (omega arith) (sheetIn text) (text-whole text) known m sizing .plate
+
       go : Ended (pass 5 (sheetIn text) known m sizing) → Fit (pass 5 (sheetIn text) known m sizing)
-      go (well z a) = record { plate = whole-pass 5 (omega arith) (sheetIn text) (text-whole text) known m sizing z .plate; none = λ (e : pass 5 (sheetIn text) known m sizing .number ≡ 0). a }
-      go (badly l e) = record { plate = subst (WholeRect 5) (sym e) zero-rect; none = λ (z : pass 5 (sheetIn text) known m sizing .number ≡ 0). absurd (omega (arith, z, l)) }
+      go (well z a) = record { plate = whole; none = λ (e : pass 5 (sheetIn text) known m sizing .number ≡ 0). a }
+      go (badly l e) = record { plate = whole; none = λ (z : pass 5 (sheetIn text) known m sizing .number ≡ 0). absurd (omega (arith, z, l)) }
 
   pub laid-fit : (out : List ℤ) → Fit (laid text known m sizing out .outcome)
   unfolding laid judged
   laid-fit out = go (checked text (length out)) refl
     where
       go : (c : Checked) → checked text (length out) ≡ c → Fit (judged c text known m sizing out .outcome)
-      go (checked-of.Refused n at) e = record { plate = zero-rect; none = λ (z : n ≡ 0). absurd (omega (arith, z, some-number text (length out) n at e)) }
+      go (checked-of.Refused n at) e = record { plate = zero-rect 5; none = λ (z : n ≡ 0). absurd (omega (arith, z, some-number text (length out) n at e)) }
       go (checked-of.Accepted r w) e = pass-fit
 
 pub settled-fit : (text : List ℕ) (out : List ℤ) → Fit (settled text out .outcome)

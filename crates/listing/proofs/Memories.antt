@@ -8,16 +8,14 @@ use lib.Dec.{eqb}
 use lib.IntN.{pos}
 use Rattle.emath.specs.Steps.{most}
 use Rattle.grid.specs.Memories.{emptyMemory}
-use Rattle.grid.specs.Grids.{knownMemory}
 use Rattle.grid.specs.declared.Memory.{Memory}
 use Rattle.model.proofs.Embedding.{Upto, empty, upto}
 use Rattle.model.proofs.Ticks.{len}
 use Rattle.sheet.specs.Pass.{Sheet, Ran, begun, headed, ranWith, plateOf, remembered, refusedAt, outcomeOf, pass}
 use Rattle.price_clause.specs.Passes.{passes}
 use Rattle.price_clause.specs.Sheets.{WholeSheet}
-use Rattle.sheet.proofs.Passes.{grid-pass}
 use Rattle.price_clause.proofs.Listed.{Listed, listed-empty, listed-sound}
-use Rattle.price_clause.proofs.FurtherPasses.{gives-back, memory-kept}
+use Rattle.price_clause.proofs.FurtherPasses.{first-gives-back, memory-kept}
 use Rattle.listing.specs.Putting.{Whole, none, more, WholeMemory}
 
 ticks-whole : (ns : List ℕ) → Upto (most 5) ns → Whole (map (len 5) ns)
@@ -38,13 +36,12 @@ pub empty-whole : WholeMemory emptyMemory
 empty-whole = listed-whole [] [] emptyMemory (listed-empty 5)
 
 -- ---- with a grid
-module _ (s : Sheet) (w : WholeSheet 5 s) (g : s .«has_grid» ≡ true) (one : passes 5 s 0 .number ≡ 0) where
-  pub first-whole : WholeMemory (passes 5 s 0 .memory)
-  unfolding passes knownMemory
-  first-whole = let b = gives-back 5 (omega arith) s w false emptyMemory true (grid-pass 5 s false emptyMemory true g one) [] empty refl in listed-whole _ (b .0) _ (b .2)
+module _ (s : Sheet) (w : WholeSheet 5 s) (g : s .«has_grid» ≡ true) (one : passes 5 s emptyMemory 0 .number ≡ 0) where
+  pub first-whole : WholeMemory (passes 5 s emptyMemory 0 .memory)
+  first-whole = let b = first-gives-back 5 (omega arith) s w g emptyMemory one in listed-whole _ (b .0) _ (b .2)
 
-  pub second-whole : passes 5 s 1 .number ≡ 0 → WholeMemory (passes 5 s 1 .memory)
-  second-whole two = subst WholeMemory (sym (memory-kept 5 (omega arith) s w g one two)) first-whole
+  pub second-whole : passes 5 s emptyMemory 1 .number ≡ 0 → WholeMemory (passes 5 s emptyMemory 1 .memory)
+  second-whole two = subst WholeMemory (sym (memory-kept 5 (omega arith) s w g emptyMemory one two)) first-whole
 
 -- ---- without one the memory is the one given
 given-back : (m : Memory) (r : Ran) → outcomeOf false m r .memory ≡ m

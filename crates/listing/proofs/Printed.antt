@@ -97,7 +97,7 @@ module _ (text : List ℕ) (known : Bool) (m : Memory) (sizing : Bool) (out : Li
         go : (l : Laid) → p .laid ≡ l → printable l p
         go Accepted e =
             let s = shown text known m sizing out p exit c e in
-            (subst (WholeRect 5) (sym (s .plate)) (whole-pass 5 (omega arith) (sheetIn text) (text-whole text) known m sizing (s .number) .plate), subst WholeMemory (sym (s .memory)) (f (s .number)))
+            (subst (WholeRect 5) (sym (s .plate)) (whole-pass 5 (omega arith) (sheetIn text) (text-whole text) known m sizing .plate), subst WholeMemory (sym (s .memory)) (f (s .number)))
         go (Refused n at) e = refused-at n at e
 
     module _ (full : length out ≡ 4096) (P : Put) (start : P .at ≡ 0) (room : length (P .out) ≡ 40802) where
@@ -110,7 +110,7 @@ module _ (text : List ℕ) (known : Bool) (m : Memory) (sizing : Bool) (out : Li
           let b = pass-all 5 (sheetIn text) known m sizing (s .number) in
           let d = sheet-slices.pass-few 5 (sheetIn text) known m sizing in
           let t = room-there text 4096 r w e in
-          let i = whole-pass 5 (omega arith) (sheetIn text) (text-whole text) known m sizing (s .number) in
+          let i = whole-pass 5 (omega arith) (sheetIn text) (text-whole text) known m sizing in
           rw (s .plate, s .memory)
           (written.put-accepted text exit (o .plate) (o .memory) P (o .cells)
           (record { well = v .well; from = omega arith; few = omega arith; others = s .others; there = s .slice; whole = i .cells; all = omega (arith, a, b, d); room = omega (arith, a, d, t, start, room) })
@@ -165,7 +165,7 @@ module _ (text : List ℕ) (known : Bool) (m : Memory) (sizing : Bool) (out : Li
 -- ---- the program's one pass, or two
 module _ (text : List ℕ) (out between : List ℤ) (p : Passed) (full : length out ≡ 4096) (c : Called text false emptyMemory true out p between) where
   -- without a grid the first pass is printed, and so it is where it is refused
-  memory-first : (b : Bool) → sheetIn text .«has_grid» ≡ b → passes 5 (sheetIn text) 0 .number ≡ 0 → WholeMemory (passes 5 (sheetIn text) 0 .memory)
+  memory-first : (b : Bool) → sheetIn text .«has_grid» ≡ b → passes 5 (sheetIn text) emptyMemory 0 .number ≡ 0 → WholeMemory (passes 5 (sheetIn text) emptyMemory 0 .memory)
   unfolding passes
   memory-first true g z = first-whole (sheetIn text) (text-whole text) g z
   memory-first false g z = subst WholeMemory (sym (plain-memory 5 (sheetIn text) false emptyMemory true g)) empty-whole
@@ -180,22 +180,22 @@ module _ (text : List ℕ) (out between : List ℤ) (p : Passed) (full : length 
       laid-is text false emptyMemory true out p between c
       ∙ ap (λ (x : Checked). laidOf (judged x text false emptyMemory true out .outcome .number) (judged x text false emptyMemory true out .outcome .at)) (ap (λ (n : ℕ). checked text n) full ∙ e)
 
-  laid-first : (r w : ℕ) → checked text 4096 ≡ checked-of.Accepted r w → p .laid ≡ laidOf (passes 5 (sheetIn text) 0 .number) (passes 5 (sheetIn text) 0 .at)
+  laid-first : (r w : ℕ) → checked text 4096 ≡ checked-of.Accepted r w → p .laid ≡ laidOf (passes 5 (sheetIn text) emptyMemory 0 .number) (passes 5 (sheetIn text) emptyMemory 0 .at)
   unfolding judged passes
   laid-first r w e = laid-by (checked-of.Accepted r w) e
 
   -- whether the code goes on is whether the rule does
-  goes-on : (r w : ℕ) → checked text 4096 ≡ checked-of.Accepted r w → isAccepted (p .laid) && hasGrid text ≡ eqb (passes 5 (sheetIn text) 0 .number) 0 && sheetIn text .«has_grid»
-  goes-on r w e = rw (laid-first r w e, accepted-is (passes 5 (sheetIn text) 0 .number) (passes 5 (sheetIn text) 0 .at), grid-there text (no-fault text 4096 r w e))
+  goes-on : (r w : ℕ) → checked text 4096 ≡ checked-of.Accepted r w → isAccepted (p .laid) && hasGrid text ≡ eqb (passes 5 (sheetIn text) emptyMemory 0 .number) 0 && sheetIn text .«has_grid»
+  goes-on r w e = rw (laid-first r w e, accepted-is (passes 5 (sheetIn text) emptyMemory 0 .number) (passes 5 (sheetIn text) emptyMemory 0 .at), grid-there text (no-fault text 4096 r w e))
 
   which : (b : Bool) → isAccepted (p .laid) && hasGrid text ≡ b → (k : Checked) → checked text 4096 ≡ k
-      → told k text (cond b (passes 5 (sheetIn text) 1) (passes 5 (sheetIn text) 0)) ≡ told k text (printed (sheetIn text))
+      → told k text (cond b (passes 5 (sheetIn text) emptyMemory 1) (passes 5 (sheetIn text) emptyMemory 0)) ≡ told k text (printed (sheetIn text))
   unfolding printed
   which b h (checked-of.Refused n at) e = refl
   which b h (checked-of.Accepted r w) e =
-      ap (λ (x : Bool). outcomeLines (sheetIn text .«has_grid») (records text) (cond x (passes 5 (sheetIn text) 1) (passes 5 (sheetIn text) 0))) (sym h ∙ goes-on r w e)
+      ap (λ (x : Bool). outcomeLines (sheetIn text .«has_grid») (records text) (cond x (passes 5 (sheetIn text) emptyMemory 1) (passes 5 (sheetIn text) emptyMemory 0))) (sym h ∙ goes-on r w e)
 
-  which-list : (b : Bool) → isAccepted (p .laid) && hasGrid text ≡ b → told (checked text 4096) text (cond b (passes 5 (sheetIn text) 1) (passes 5 (sheetIn text) 0)) ≡ listOf text
+  which-list : (b : Bool) → isAccepted (p .laid) && hasGrid text ≡ b → told (checked text 4096) text (cond b (passes 5 (sheetIn text) emptyMemory 1) (passes 5 (sheetIn text) emptyMemory 0)) ≡ listOf text
   which-list b h = which b h (checked text 4096) refl ∙ list-told text
 
   pub first-list : (P : Put) → P .at ≡ 0 → length (P .out) ≡ 40802 → isAccepted (p .laid) && hasGrid text ≡ false → numberOf (p .laid) < 256 → putPassed (p .laid) text between p P ≡ after P (listOf text)
@@ -207,8 +207,8 @@ module _ (text : List ℕ) (out between : List ℤ) (p : Passed) (full : length 
   -- a second pass, over the same slice
   record Again : Type 0 where
     pub grid : sheetIn text .«has_grid» ≡ true
-    pub number : passes 5 (sheetIn text) 0 .number ≡ 0
-    pub memory : p .memory ≡ passes 5 (sheetIn text) 0 .memory
+    pub number : passes 5 (sheetIn text) emptyMemory 0 .number ≡ 0
+    pub memory : p .memory ≡ passes 5 (sheetIn text) emptyMemory 0 .memory
 
   accepted-laid : (l : Laid) (b : Bool) → isAccepted l && b ≡ true → (l ≡ Accepted) × (b ≡ true)
   unfolding isAccepted
@@ -230,20 +230,20 @@ module _ (text : List ℕ) (out between : List ℤ) (p : Passed) (full : length 
       go (checked-of.Accepted r w) e = record { grid = sym (grid-there text (no-fault text 4096 r w e)) ∙ accepted-laid (p .laid) (hasGrid text) h .1; number = s .number; memory = s .memory }
 
   module _ (exit : List ℤ) (q : Passed) (kept : length between ≡ 4096) (d : Called text true (p .memory) false between q exit) (h : isAccepted (p .laid) && hasGrid text ≡ true) where
-    with-first : Called text true (passes 5 (sheetIn text) 0 .memory) false between q exit
+    with-first : Called text true (passes 5 (sheetIn text) emptyMemory 0 .memory) false between q exit
     with-first = subst (λ (m : Memory). Called text true m false between q exit) (again h .memory) d
 
-    memory-second : passes 5 (sheetIn text) 1 .number ≡ 0 → WholeMemory (passes 5 (sheetIn text) 1 .memory)
+    memory-second : passes 5 (sheetIn text) emptyMemory 1 .number ≡ 0 → WholeMemory (passes 5 (sheetIn text) emptyMemory 1 .memory)
     memory-second z = second-whole (sheetIn text) (text-whole text) (again h .grid) (again h .number) z
 
     pub second-prints : Printable q
     unfolding passes
-    second-prints = can-print text true (passes 5 (sheetIn text) 0 .memory) false between q exit with-first memory-second
+    second-prints = can-print text true (passes 5 (sheetIn text) emptyMemory 0 .memory) false between q exit with-first memory-second
 
     pub second-list : (P : Put) → P .at ≡ 0 → length (P .out) ≡ 40802 → numberOf (q .laid) < 256 → putPassed (q .laid) text exit q P ≡ after P (listOf text)
     unfolding passes
     second-list P start room few =
-        told-call text true (passes 5 (sheetIn text) 0 .memory) false between q exit with-first memory-second kept P start room (λ (e : sheetIn text .«has_grid» ≡ false). no-such (sym e ∙ again h .grid)) few
+        told-call text true (passes 5 (sheetIn text) emptyMemory 0 .memory) false between q exit with-first memory-second kept P start room (λ (e : sheetIn text .«has_grid» ≡ false). no-such (sym e ∙ again h .grid)) few
         ∙ ap (λ (l : List ℕ). after P l) (which-list true h)
 
 -- ---- the length, and the slice

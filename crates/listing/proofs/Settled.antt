@@ -8,7 +8,6 @@ use native.Mathlib.Omega.{arith}
 use lib.Dec.{eqb}
 use lib.IntN.{ℤ}
 use lib.ListN.{length}
-use lib.Seq.{length-sets}
 use lib.Ieee.{Float}
 use borrow.Author.Tests.{eqb-true, ne-eqb}
 use Rattle.grid.specs.Memories.{emptyMemory}
@@ -19,26 +18,18 @@ use Rattle.records.specs.declared.Checked.the-variants as checked-of
 use Rattle.sheet.specs.Pass.{Outcome, refusedAt, pass}
 use Rattle.price_clause.specs.Passes.{passes}
 use Rattle.sheet.specs.Texts.{sheetIn}
-use Rattle.sheet.specs.Slices.{LaidOut, written, laidOf, passedOf, judged, laid}
+use Rattle.sheet.specs.Slices.{LaidOut, laidOf, passedOf, judged, laid}
 use Rattle.sheet.specs.Passing.{Room, Known}
 use Rattle.sheet.specs.Slices.{Called}
 use Rattle.sheet.specs.declared.Passed.{Passed}
 use Rattle.sheet.proofs.WalkedPasses.{no-such, no-fault}
+use Rattle.sheet.proofs.Slices.{laid-length}
 use Rattle.sheet.proofs.Shown.{some-number}
 use Rattle.listing.specs.Lists.{printed, settledFrom, settled, listOf}
 use Rattle.listing.specs.Putting.{Put, isAccepted, hasGrid, Printable, putPassed, numberOf}
 use Rattle.listing.proofs.Written.{after}
 use Rattle.listing.proofs.Places.{grid-there}
 use Rattle.listing.proofs.Printed.{accepted-is, first-prints, first-list, second-prints, second-list}
-
--- a pass leaves the slice as long as it was
-pub laid-length : (text : List ℕ) (known : Bool) (m : Memory) (sizing : Bool) (out : List ℤ) → length (laid text known m sizing out .slice) ≡ length out
-unfolding laid judged
-laid-length text known m sizing out = go (checked text (length out))
-  where
-    go : (c : Checked) → length (judged c text known m sizing out .slice) ≡ length out
-    go (checked-of.Refused n at) = refl
-    go (checked-of.Accepted r w) = length-sets out 0 (written (pass 5 (sheetIn text) known m sizing .cells))
 
 module _ (text : List ℕ) (out : List ℤ) where
   abbrev first : LaidOut

@@ -23,7 +23,7 @@ use Rattle.sheet.specs.Texts.{sheetIn}
 -- "The program runs a sheet with G twice …, the first pass without memory, the second using the first's memory and not sizing; the second is
 -- printed. Such a sheet is accepted if both passes are."
 unfoldable pub printed : Sheet → Outcome
-printed s = cond (eqb (passes 5 s 0 .number) 0 && s .«has_grid») (passes 5 s 1) (passes 5 s 0)
+printed s = cond (eqb (passes 5 s emptyMemory 0 .number) 0 && s .«has_grid») (passes 5 s emptyMemory 1) (passes 5 s emptyMemory 0)
 
 -- the same over a text and one lent slice: what the last pass gives, and what the slice then holds
 unfoldable pub settledFrom : List ℕ → LaidOut → LaidOut

@@ -14,7 +14,7 @@ use Rattle.layout.specs.Refusals.{closed, regionFault}
 use Rattle.layout.specs.Steps.{WholeCursor}
 use Rattle.layout.specs.declared.Direction.{Direction}
 use Rattle.layout.specs.declared.Direction.the-variants.{LeftToRight, RightToLeft, TopDown, BottomUp}
-use Rattle.grid.specs.Memories.{emptyMemory, heights}
+use Rattle.grid.specs.Memories.{heights}
 use Rattle.grid.specs.Grids.{knownMemory, newGrid}
 use Rattle.grid.specs.Refusals.{gridFault, fitsGrid, directionFault}
 use Rattle.grid.specs.declared.Memory.{Memory}
@@ -110,19 +110,25 @@ module _ (k : ℕ) (l : k ≤ 6) (s : Sheet) (w : WholeSheet k s) where
           (t .rows, t .run, subst (Listed k _ (t .rows)) (sym e) (t .at .listed))
 
   -- ---- the second pass gives back what it was given
-  module _ (g : s .«has_grid» ≡ true) (one : passes k s 0 .number ≡ 0) (two : passes k s 1 .number ≡ 0) where
-    pub memory-kept : passes k s 1 .memory ≡ passes k s 0 .memory
+  module _ (g : s .«has_grid» ≡ true) (none : Memory) (one : passes k s none 0 .number ≡ 0) where
+    -- the first one begins with no heights, whatever stands beside its flag
+    pub first-gives-back : (rows : List ℕ) × Run mh [] (s .options .«start_row») [] (modelSteps k (s .steps)) rows × Listed k (colsFrom mw 0 [] (modelSteps k (s .steps))) rows (passes k s none 0 .memory)
     unfolding passes knownMemory
-    memory-kept =
-        let a = gives-back false emptyMemory true (grid-pass k s false emptyMemory true g one) [] empty refl in
-        let m = pass k s false emptyMemory true .memory in
-        let b = gives-back true m false (grid-pass k s true m false g two) (a .0) (a .2 .rows .few) (a .2 .rows .are) in
-        let e : b .0 ≡ a .0 = heights-kept (a .1) (b .1) in
-        let cols = colsFrom mw 0 [] (modelSteps k (s .steps)) in
-        same-memory k cols (a .0) (pass k s true m false .memory) m (subst (λ (r : List ℕ). Listed k cols r (pass k s true m false .memory)) e (b .2)) (a .2)
+    first-gives-back = gives-back _ none true (grid-pass k s _ none true g one) [] empty refl
 
-    -- and so all after it are the second again
-    pub further-passes : (n : ℕ) → passes k s (suc n) ≡ passes k s 1
-    unfolding passes
-    further-passes zero = refl
-    further-passes (suc n) = ap (λ (m : Memory). pass k s true m false) (ap (λ (o : Outcome). o .memory) (further-passes n) ∙ memory-kept)
+    module _ (two : passes k s none 1 .number ≡ 0) where
+      pub memory-kept : passes k s none 1 .memory ≡ passes k s none 0 .memory
+      unfolding passes knownMemory
+      memory-kept =
+          let a = first-gives-back in
+          let m = pass k s false none true .memory in
+          let b = gives-back true m false (grid-pass k s true m false g two) (a .0) (a .2 .rows .few) (a .2 .rows .are) in
+          let e : b .0 ≡ a .0 = heights-kept (a .1) (b .1) in
+          let cols = colsFrom mw 0 [] (modelSteps k (s .steps)) in
+          same-memory k cols (a .0) (pass k s true m false .memory) m (subst (λ (r : List ℕ). Listed k cols r (pass k s true m false .memory)) e (b .2)) (a .2)
+
+      -- and so all after it are the second again
+      pub further-passes : (n : ℕ) → passes k s none (suc n) ≡ passes k s none 1
+      unfolding passes
+      further-passes zero = refl
+      further-passes (suc n) = ap (λ (m : Memory). pass k s true m false) (ap (λ (o : Outcome). o .memory) (further-passes n) ∙ memory-kept)

@@ -7,7 +7,7 @@ use mathlib.Core.Bool.{Bool, true, false}
 use mathlib.Core.List.{List, map, Forall₂}
 use lib.Ieee.{Float}
 use Rattle.emath.specs.Steps.{most}
-use Rattle.grid.specs.Memories.{emptyMemory, widths, heights}
+use Rattle.grid.specs.Memories.{widths, heights}
 use Rattle.grid.specs.Grids.{knownMemory}
 use Rattle.grid.specs.declared.Memory.{Memory}
 use Rattle.placer.proofs.Carried.{new-sound}
@@ -43,22 +43,22 @@ abbrev lastRun : ℕ → Sheet → Bool → Memory → Bool → Ran
 lastRun k s known m sizing = runFrom k (s .heading .spacing) 3 (gridStart k s known m sizing) (s .steps)
 
 -- ---- passes
-first-pass : (k : ℕ) (s : Sheet) → s .«has_grid» ≡ true → passes k s 0 .number ≡ 0 → GridPass k s false emptyMemory true
+first-pass : (k : ℕ) (s : Sheet) (none : Memory) → s .«has_grid» ≡ true → passes k s none 0 .number ≡ 0 → GridPass k s false none true
 unfolding passes
-first-pass k s g one = grid-pass k s false emptyMemory true g one
+first-pass k s none g one = grid-pass k s false none true g one
 
-second-pass : (k : ℕ) (s : Sheet) → s .«has_grid» ≡ true → passes k s 1 .number ≡ 0 → GridPass k s true (passes k s 0 .memory) false
+second-pass : (k : ℕ) (s : Sheet) (none : Memory) → s .«has_grid» ≡ true → passes k s none 1 .number ≡ 0 → GridPass k s true (passes k s none 0 .memory) false
 unfolding passes
-second-pass k s g two = grid-pass k s true (passes k s 0 .memory) false g two
+second-pass k s none g two = grid-pass k s true (passes k s none 0 .memory) false g two
 
 -- both are the engine's, from the head h and with the records ms
-record ByEngine (k : ℕ) (s : Sheet) (ms : List model.Step) (h : HeadF Float) : Type 0 where
+record ByEngine (k : ℕ) (s : Sheet) (none : Memory) (ms : List model.Step) (h : HeadF Float) : Type 0 where
   pub one : Out Float (Spot Float)
   pub two : Out Float (Spot Float)
   pub first : firstF (ops k) yes h (moves (len k) ms) ≡ accepted one
   pub second : laterF (ops k) yes h (moves (len k) ms) (memoryF one) ≡ accepted two
-  pub frames : two .frames ≡ map (λ (x : Cell). edgesOf (x .frame)) (passes k s 1 .cells)
-  pub plate : two .last .plate ≡ edgesOf (passes k s 1 .plate)
+  pub frames : two .frames ≡ map (λ (x : Cell). edgesOf (x .frame)) (passes k s none 1 .cells)
+  pub plate : two .last .plate ≡ edgesOf (passes k s none 1 .plate)
 
 module _ (k B : ℕ) (l : k ≤ 6) (b : B ≡ most k) (s : Sheet) (ms : List model.Step) (c : Counts k B (s .steps) ms) where
   module _ (known : Bool) (m : Memory) (sizing : Bool) (p : GridPass k s known m sizing) where
@@ -82,37 +82,37 @@ module _ (k B : ℕ) (l : k ≤ 6) (b : B ≡ most k) (s : Sheet) (ms : List mod
     memory-is = p .memory ∙ saved-is (lastRun k s known m sizing .placer) (follows .still)
 
   -- ---- so the first two are
-  module _ (g : s .«has_grid» ≡ true) (one : passes k s 0 .number ≡ 0) (two : passes k s 1 .number ≡ 0) where
+  module _ (none : Memory) (g : s .«has_grid» ≡ true) (one : passes k s none 0 .number ≡ 0) (two : passes k s none 1 .number ≡ 0) where
     abbrev given : Memory
-    given = passes k s 0 .memory
+    given = passes k s none 0 .memory
 
     abbrev firstOut : Out Float (Spot Float)
-    firstOut = outOf (lastRun k s false emptyMemory true)
+    firstOut = outOf (lastRun k s false none true)
 
     abbrev secondOut : Out Float (Spot Float)
     secondOut = outOf (lastRun k s true given false)
 
     first-is : firstF (ops k) yes (headOfSheet k s) (moves (len k) ms) ≡ accepted firstOut
     unfolding knownMemory
-    first-is = engine-pass false emptyMemory true (first-pass k s g one)
+    first-is = engine-pass false none true (first-pass k s none g one)
 
     given-is : memoryOf given ≡ memoryF firstOut
     unfolding passes
-    given-is = ap memoryOf (memory-is false emptyMemory true (first-pass k s g one))
+    given-is = ap memoryOf (memory-is false none true (first-pass k s none g one))
 
     second-is : laterF (ops k) yes (headOfSheet k s) (moves (len k) ms) (memoryF firstOut) ≡ accepted secondOut
     unfolding knownMemory
-    second-is = ap (λ (m : MemF Float). laterF (ops k) yes (headOfSheet k s) (moves (len k) ms) m) (sym given-is) ∙ engine-pass true given false (second-pass k s g two)
+    second-is = ap (λ (m : MemF Float). laterF (ops k) yes (headOfSheet k s) (moves (len k) ms) m) (sym given-is) ∙ engine-pass true given false (second-pass k s none g two)
 
-    frames-are : secondOut .frames ≡ map (λ (x : Cell). edgesOf (x .frame)) (passes k s 1 .cells)
+    frames-are : secondOut .frames ≡ map (λ (x : Cell). edgesOf (x .frame)) (passes k s none 1 .cells)
     unfolding passes
-    frames-are = ap (map (λ (x : Cell). edgesOf (x .frame))) (sym (second-pass k s g two .cells))
+    frames-are = ap (map (λ (x : Cell). edgesOf (x .frame))) (sym (second-pass k s none g two .cells))
 
-    plate-is : secondOut .last .plate ≡ edgesOf (passes k s 1 .plate)
+    plate-is : secondOut .last .plate ≡ edgesOf (passes k s none 1 .plate)
     unfolding passes plateOf
-    plate-is = ap edgesOf (sym (second-pass k s g two .plate))
+    plate-is = ap edgesOf (sym (second-pass k s none g two .plate))
 
-    by-engine : ByEngine k s ms (headOfSheet k s)
+    by-engine : ByEngine k s none ms (headOfSheet k s)
     by-engine = record { one = firstOut; two = secondOut; first = first-is; second = second-is; frames = frames-are; plate = plate-is }
 
 -- ---- the clause
@@ -120,39 +120,41 @@ head-same : (k : ℕ) (a b : Sheet) → GrownSheet a b → headOfSheet k b ≡ h
 head-same k a b g = rw (g .heading, g .options)
 
 -- both sheets' records as counts
-counts-of : (k B : ℕ) (l : k ≤ 6) (e : B ≡ most k) (a b : Sheet) → GrownSheet a b → WholeSheet k a → WholeSheet k b → a .«has_grid» ≡ true → passes k a 0 .number ≡ 0 → passes k b 0 .number ≡ 0
-    → Both k B l e (a .steps) (b .steps)
-counts-of k B l e a b g wa wb t n m =
-    let p = first-pass k a t n in
-    let q = first-pass k b (sym (g .grid) ∙ t) m in
-    both-counted k B l e (a .heading .spacing) (g .steps) (wa .steps) (wb .steps) 3 3 (gridStart k a false emptyMemory true) (gridStart k b false emptyMemory true) (p .run)
-    (ap (λ (h : Heading). runFrom k (h .spacing) 3 (gridStart k b false emptyMemory true) (b .steps) .number) (g .heading) ∙ q .run)
+counts-of : (k B : ℕ) (l : k ≤ 6) (e : B ≡ most k) (a b : Sheet) (m m′ : Memory) → GrownSheet a b → WholeSheet k a → WholeSheet k b → a .«has_grid» ≡ true
+    → passes k a m 0 .number ≡ 0 → passes k b m′ 0 .number ≡ 0 → Both k B l e (a .steps) (b .steps)
+counts-of k B l e a b m m′ g wa wb t x y =
+    let p = first-pass k a m t x in
+    let q = first-pass k b m′ (sym (g .grid) ∙ t) y in
+    both-counted k B l e (a .heading .spacing) (g .steps) (wa .steps) (wb .steps) 3 3 (gridStart k a false m true) (gridStart k b false m′ true) (p .run)
+    (ap (λ (h : Heading). runFrom k (h .spacing) 3 (gridStart k b false m′ true) (b .steps) .number) (g .heading) ∙ q .run)
 
 -- with the limit of the domain a variable
-module _ (k B : ℕ) (l : k ≤ 6) (e : B ≡ most k) (a b : Sheet) where
+module _ (k B : ℕ) (l : k ≤ 6) (e : B ≡ most k) (a b : Sheet) (m m′ : Memory) where
   abbrev Clause : Type 0
   Clause =
-      Forall₂ Frame≤ (frameTicks k (passes k a 1 .cells)) (frameTicks k (passes k b 1 .cells)) × Plate≤ (ticks k (edgesOf (passes k a 1 .plate))) (ticks k (edgesOf (passes k b 1 .plate)))
+      Forall₂ Frame≤ (frameTicks k (passes k a m 1 .cells)) (frameTicks k (passes k b m′ 1 .cells))
+      × Plate≤ (ticks k (edgesOf (passes k a m 1 .plate))) (ticks k (edgesOf (passes k b m′ 1 .plate)))
 
-  of-engine : (g : model.Heading) → FineHeading B g → {m n : List model.Step} → model.Grown m n → Fits B m → Fits B n → ByEngine k a m (headOf (pt k B) (len k) g) → ByEngine k b n (headOf (pt k B) (len k) g) → Clause
-  of-engine g fine grown fm fn x y =
-      let r = grids-in-ticks k B l e yes g fine grown fm fn (x .one) (x .two) (y .one) (y .two) (x .first) (x .second) (y .first) (y .second) in
+  of-engine : (g : model.Heading) → FineHeading B g → {x y : List model.Step} → model.Grown x y → Fits B x → Fits B y
+      → ByEngine k a m x (headOf (pt k B) (len k) g) → ByEngine k b m′ y (headOf (pt k B) (len k) g) → Clause
+  of-engine g fine grown fx fy x y =
+      let r = grids-in-ticks k B l e yes g fine grown fx fy (x .one) (x .two) (y .one) (y .two) (x .first) (x .second) (y .first) (y .second) in
       rw (x .frames, y .frames, x .plate, y .plate) at r
 
   in-counts : GrownSheet a b → WholeSheet k a → WholeSheet k b → a .«has_grid» ≡ true → NoNegativeSpacing a
-      → passes k a 0 .number ≡ 0 → passes k a 1 .number ≡ 0 → passes k b 0 .number ≡ 0 → passes k b 1 .number ≡ 0 → Clause
+      → passes k a m 0 .number ≡ 0 → passes k a m 1 .number ≡ 0 → passes k b m′ 0 .number ≡ 0 → passes k b m′ 1 .number ≡ 0 → Clause
   in-counts g wa wb t n a₀ a₁ b₀ b₁ =
-      let c = counts-of k B l e a b g wa wb t a₀ b₀ in
-      let h = sheet-headed k B l e a wa n (begun k l a false emptyMemory true (first-pass k a t a₀)) in
-      let x = by-engine k B l e a (c .first) (c .counts) t a₀ a₁ in
-      let y = by-engine k B l e b (c .second) (c .counts′) (sym (g .grid) ∙ t) b₀ b₁ in
+      let c = counts-of k B l e a b m m′ g wa wb t a₀ b₀ in
+      let h = sheet-headed k B l e a wa n (begun k l a false m true (first-pass k a m t a₀)) in
+      let x = by-engine k B l e a (c .first) (c .counts) m t a₀ a₁ in
+      let y = by-engine k B l e b (c .second) (c .counts′) m′ (sym (g .grid) ∙ t) b₀ b₁ in
       of-engine (h .heading) (h .fine) (c .grown) (counts-fit (c .counts)) (counts-fit (c .counts′))
-      (subst (ByEngine k a (c .first)) (h .is) x) (subst (ByEngine k b (c .second)) (head-same k a b g ∙ h .is) y)
+      (subst (ByEngine k a m (c .first)) (h .is) x) (subst (ByEngine k b m′ (c .second)) (head-same k a b g ∙ h .is) y)
 
-pub grids-grow : (k : ℕ) → k ≤ 6 → (a b : Sheet) → GrownSheet a b → WholeSheet k a → WholeSheet k b → a .«has_grid» ≡ true → NoNegativeSpacing a
-    → passes k a 0 .number ≡ 0 → passes k a 1 .number ≡ 0 → passes k b 0 .number ≡ 0 → passes k b 1 .number ≡ 0
-    → Forall₂ (λ (c d : Cell). FrameNoLess (inTicks k (c .frame)) (inTicks k (d .frame))) (passes k a 1 .cells) (passes k b 1 .cells)
-    × PlateNoLess (inTicks k (passes k a 1 .plate)) (inTicks k (passes k b 1 .plate))
-grids-grow k l a b g wa wb t n a₀ a₁ b₀ b₁ =
-    let r = in-counts k (most k) l refl a b g wa wb t n a₀ a₁ b₀ b₁ in
-    (frames-no-less k (passes k a 1 .cells) (passes k b 1 .cells) (r .0), plate-no-less k (passes k a 1 .plate) (passes k b 1 .plate) (r .1))
+pub grids-grow : (k : ℕ) → k ≤ 6 → (a b : Sheet) (m m′ : Memory) → GrownSheet a b → WholeSheet k a → WholeSheet k b → a .«has_grid» ≡ true → NoNegativeSpacing a
+    → passes k a m 0 .number ≡ 0 → passes k a m 1 .number ≡ 0 → passes k b m′ 0 .number ≡ 0 → passes k b m′ 1 .number ≡ 0
+    → Forall₂ (λ (c d : Cell). FrameNoLess (inTicks k (c .frame)) (inTicks k (d .frame))) (passes k a m 1 .cells) (passes k b m′ 1 .cells)
+    × PlateNoLess (inTicks k (passes k a m 1 .plate)) (inTicks k (passes k b m′ 1 .plate))
+grids-grow k l a b m m′ g wa wb t n a₀ a₁ b₀ b₁ =
+    let r = in-counts k (most k) l refl a b m m′ g wa wb t n a₀ a₁ b₀ b₁ in
+    (frames-no-less k (passes k a m 1 .cells) (passes k b m′ 1 .cells) (r .0), plate-no-less k (passes k a m 1 .plate) (passes k b m′ 1 .plate) (r .1))

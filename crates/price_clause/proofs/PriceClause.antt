@@ -2,7 +2,9 @@
 -- Assumes nothing.
 use Prim.Native.Nat.{ℕ, suc, _+_, _≤_}
 use mathlib.Core.Path.{_≡_, sym, subst}
+use mathlib.Core.Bool.{true}
 use native.Mathlib.Omega.{arith}
+use Rattle.grid.specs.declared.Memory.{Memory}
 use Rattle.sheet.specs.Pass.{Sheet}
 use Rattle.price_clause.specs.Passes.{passes}
 use Rattle.price_clause.specs.Sheets.{WholeSheet}
@@ -19,16 +21,20 @@ use Rattle.price_clause.proofs.TextTicks.{text-whole}
 pub clause-of : (k : ℕ) → k ≤ 6 → (Is : Sheet → Type 0) → ((s : Sheet) → Is s → WholeSheet k s) → PriceClause k Is
 clause-of k l Is w = record {
   strips = λ a b x y g s n known known′ m m′ sizing sizing′ p q. (let r = strips-grow k l a b g (w a x) (w b y) s n known known′ m m′ sizing sizing′ p q in record { frames = r .0; plate = r .1 });
-  grids = λ a b x y g h n p q p′ q′. (let r = grids-grow k l a b g (w a x) (w b y) h n p q p′ q′ in record { frames = r .0; plate = r .1 });
+  grids = λ a b x y g h n m m′ p q p′ q′. (let r = grids-grow k l a b m m′ g (w a x) (w b y) h n p q p′ q′ in record { frames = r .0; plate = r .1 });
   columns = λ s x g known m sizing p c h. column-law k (omega arith) s known m sizing (w s x) g p c h;
-  further = λ s x g p q t u n. subst (λ (i : ℕ). passes k s i ≡ passes k s 1) (two-more n) (further-passes k l s (w s x) g p q (suc n));
+  further = λ s x g m p q t u n. again s x g m p q n;
   without-K = λ s x g n known m sizing p. without-K k l s (w s x) known m sizing g p n;
   always = λ s x g known m sizing p. always-on-steps k l s (w s x) known m sizing g p;
-  whole = λ s x known m sizing p. (let r = whole-pass k l s (w s x) known m sizing p in (r .cells, r .plate));
+  all-further = again;
+  whole = λ s x known m sizing. (let r = whole-pass k l s (w s x) known m sizing in (r .cells, r .plate));
 }
   where
     two-more : (n : ℕ) → suc (suc n) ≡ n + 2
     two-more n = omega arith
+
+    again : (s : Sheet) → Is s → s .«has_grid» ≡ true → (m : Memory) → passes k s m 0 .number ≡ 0 → passes k s m 1 .number ≡ 0 → (n : ℕ) → passes k s m (n + 2) ≡ passes k s m 1
+    again s x g m p q n = subst (λ (i : ℕ). passes k s m i ≡ passes k s m 1) (two-more n) (further-passes k l s (w s x) g m p q (suc n))
 
 -- at any step down to 1/64 point
 pub price-clause-in-steps : (k : ℕ) → k ≤ 6 → PriceClause k (WholeSheet k)

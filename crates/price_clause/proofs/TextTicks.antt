@@ -1,18 +1,13 @@
 -- Every sheet that is read from a text is in whole ticks, whatever the text. Assumes nothing.
 use Prim.Native.Nat.{ℕ, zero, suc, _+_, _*_, _≤_}
-use mathlib.Core.Path.{_≡_, refl, sym}
+use mathlib.Core.Path.{_≡_, refl}
 use mathlib.Core.Bool.{Bool, true, false, _&&_}
 use lib.Dec.{eqb}
 use mathlib.Core.List.{List, [], _∷_}
-use native.Mathlib.Omega.{arith}
 use lib.IntN.{ℤ, pos, natAbs}
-use lib.Ieee.{ofBits}
-use Rattle.emath.specs.Rectangles.{zeroF}
 use Rattle.emath.specs.Steps.{Edge}
-use Rattle.emath.proofs.Zeros.{val-zero}
 use Rattle.layout.specs.Steps.{WholeRect, WholeSize}
 use Rattle.layout.specs.Rules.{zeroVec}
-use Rattle.layout.specs.Refusals.{zeroRect}
 use Rattle.text.specs.Fields.{fieldAt}
 use Rattle.text.specs.declared.Field.{Field}
 use Rattle.text.specs.declared.Field.the-variants as field
@@ -28,10 +23,7 @@ use Rattle.records.specs.declared.Record.{Record}
 use Rattle.records.specs.declared.Record.the-variants as record-of
 use Rattle.price_clause.specs.Sheets.{WholeSteps, WholeSheet}
 use Rattle.sheet.specs.Texts.{stepsOf, noHeading, afterHeading, sheetOf, sheetIn}
-
-zero-edge : Edge 5 zeroF
-unfolding ofBits
-zero-edge = record { steps = pos 0; few = omega arith; is = sym (val-zero 5) }
+use Rattle.price_clause.proofs.WholeEdges.{zero-edge, zero-rect}
 
 points-edge : (z : ℤ) → natAbs z ≤ 2097152 → Edge 5 (points z)
 unfolding points
@@ -40,9 +32,9 @@ points-edge z h = record { steps = z; few = h; is = refl }
 -- ---- a length of a record
 value-edge : (f : Field) → ((z : ℤ) → f ≡ field.Number z → natAbs z ≤ 2097152) → Edge 5 (lengthValue (inPoints f))
 unfolding inPoints lengthValue
-value-edge field.Blank h = zero-edge
+value-edge field.Blank h = zero-edge 5
 value-edge (field.Number z) h = points-edge z (h z refl)
-value-edge field.Wrong h = zero-edge
+value-edge field.Wrong h = zero-edge 5
 
 pub length-edge : (s : List ℕ) (i : ℕ) → Edge 5 (lengthValue (lengthIn s i))
 unfolding lengthIn
@@ -138,10 +130,7 @@ steps-whole (more (grid a) t) = steps-whole t
 steps-whole (more wrong t) = steps-whole t
 
 zero-size : WholeSize 5 zeroVec
-zero-size = record { x = zero-edge; y = zero-edge }
-
-pub zero-rect : WholeRect 5 zeroRect
-zero-rect = record { left = zero-edge; top = zero-edge; right = zero-edge; bottom = zero-edge }
+zero-size = record { x = zero-edge 5; y = zero-edge 5 }
 
 after-whole : (h : Heading) → WholeRect 5 (h .«max_rect») → WholeSize 5 (h .spacing) → {rs : List Record} → AllWhole rs → WholeSheet 5 (afterHeading h rs)
 unfolding afterHeading
@@ -153,11 +142,11 @@ after-whole h a b (more wrong t) = record { rect = a; spacing = b; smallest = ze
 
 sheet-whole : {rs : List Record} → AllWhole rs → WholeSheet 5 (sheetOf rs)
 unfolding sheetOf
-sheet-whole none = after-whole noHeading zero-rect zero-size none
+sheet-whole none = after-whole noHeading (zero-rect 5) zero-size none
 sheet-whole (more (heading {h = h} a b) t) = after-whole h a b t
-sheet-whole (more (grid g) t) = after-whole noHeading zero-rect zero-size none
-sheet-whole (more (step w) t) = after-whole noHeading zero-rect zero-size none
-sheet-whole (more wrong t) = after-whole noHeading zero-rect zero-size none
+sheet-whole (more (grid g) t) = after-whole noHeading (zero-rect 5) zero-size none
+sheet-whole (more (step w) t) = after-whole noHeading (zero-rect 5) zero-size none
+sheet-whole (more wrong t) = after-whole noHeading (zero-rect 5) zero-size none
 
 pub text-whole : (text : List ℕ) → WholeSheet 5 (sheetIn text)
 text-whole text = sheet-whole (records-whole 512 text)

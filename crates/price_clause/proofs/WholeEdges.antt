@@ -1,12 +1,19 @@
--- Every edge of every rectangle of an accepted pass is a whole step of the domain: the frames and widgets of any state, and the plate of a
--- sheet in whole steps, with a grid (whatever memory it was given) and without. For steps of 1 to 1/64 point. Assumes nothing.
+-- Every edge of every rectangle of a pass is a whole step of the domain: the frames and widgets of the W before a fault, or of all, in any
+-- state; and the plate of a sheet in whole steps, with a grid (whatever memory it was given) and without, refused or not. For steps of 1 to
+-- 1/64 point. Assumes nothing.
 use Prim.Native.Nat.{ℕ, _+_, _≤_}
 use mathlib.Core.Path.{_≡_, refl, sym, _∙_, subst}
-use mathlib.Core.Bool.{Bool, true, false}
+use mathlib.Core.Bool.{Bool, true, false, cond}
 use mathlib.Core.List.{List, [], _∷_, _++_}
 use native.Mathlib.Omega.{arith}
-use lib.Ieee.{Float}
+use lib.Dec.{eqb}
+use lib.IntN.{pos}
+use lib.Ieee.{Float, ofBits}
+use borrow.Author.Tests.{eqb-true}
+use Rattle.emath.specs.Rectangles.{zeroF}
 use Rattle.emath.specs.Steps.{Edge}
+use Rattle.emath.proofs.Zeros.{val-zero}
+use Rattle.layout.specs.Refusals.{zeroRect}
 use Rattle.emath.specs.declared.Vec2.{Vec2}
 use Rattle.layout.specs.Steps.{WholeRect, WholeSize}
 use Rattle.placer.specs.Rules.{newPlacer, advanceAfterRects, movedPast, expandToIncludeRect, setCursor, endRow, advanceCursor, setRowHeight, setMaxWidth, setMaxHeight, setMinWidth, setMinHeight}
@@ -18,14 +25,16 @@ use Rattle.placer.proofs.WholeCalls.{new-whole, advance-cursor-whole-steps, set
 use Rattle.placer.proofs.WholePlacers.{set-max-width-whole, set-max-height-whole, set-min-width-whole, set-min-height-whole}
 use Rattle.grid.specs.declared.Memory.{Memory}
 use Rattle.placer.specs.declared.Placer.{Placer}
+use Rattle.placer.specs.declared.PlacerAnswer.{PlacerAnswer}
 use Rattle.records.specs.declared.Step.{Step}
 use Rattle.records.specs.declared.Step.the-variants.{Widget, Space, RowHeight, MaxWidth, MaxHeight, MinWidth, MinHeight, RowEnd}
 use Rattle.price_clause.specs.PriceClause.{WholeCells, none, more}
-use Rattle.sheet.specs.Pass.{Sheet, Cell, cellOf, widgetStep, stepped, runFrom, plateOf, pass}
+use Rattle.sheet.specs.Pass.{Sheet, Cell, Stepped, Ran, cellOf, widgetStep, called, stepped, followed, runFrom, headed, gridded, begun, ranWith, plateOf, pass}
 use Rattle.price_clause.specs.Sheets.{WholeSteps, WholeSheet}
 use Rattle.sheet.proofs.Runs.{widget-placed, run-goes}
-use Rattle.sheet.proofs.Passes.{grid-pass, PlainPass, plain-pass, start, gridStart}
+use Rattle.sheet.proofs.Passes.{Ended, well, badly, outcome-ends, grid-pass, PlainPass, plain-pass, start}
 use Rattle.sheet.proofs.PlacedCells.{WholeCell, cell-whole}
+use Rattle.sheet.proofs.Slices.{outcome-cells}
 use Rattle.price_clause.proofs.GridMoves.{LeftAlone, advance-alone, row-height-alone, max-width-alone, max-height-alone, min-width-alone, min-height-alone}
 use Rattle.price_clause.proofs.WholeTops.{passed-through}
 
@@ -50,11 +59,37 @@ module _ (k : ℕ) (l : k ≤ 7) where
   both none y = y
   both (more a b x) y = more a b (both x y)
 
-  pub run-cells : (sp : Vec2) (n : ℕ) (p : Placer) (steps : List Step) → runFrom k sp n p steps .number ≡ 0 → WholeCells k (runFrom k sp n p steps .cells)
-  run-cells sp n p [] h = unfold runFrom in none
-  run-cells sp n p (st ∷ rest) h =
-      let r = run-goes k sp n p st rest h in
-      subst (WholeCells k) (sym (r .cells)) (both (stepped-whole sp p st (r .this)) (run-cells sp (n + 1) (stepped k sp p st .placer) rest (r .rest)))
+  followed-cells : (n : ℕ) (a : Stepped) (later : Ran) → (a .number ≡ 0 → WholeCells k (a .cells)) → WholeCells k (later .cells) → WholeCells k (followed n a later .cells)
+  unfolding followed
+  followed-cells n a later f r = go (eqb (a .number) 0) refl
+    where
+      go : (b : Bool) → eqb (a .number) 0 ≡ b → WholeCells k (followed n a later .cells)
+      go true e = rw e (both (f (eqb-true (a .number) 0 e)) r)
+      go false e = rw e none
+
+  run-cells : (sp : Vec2) (n : ℕ) (p : Placer) (steps : List Step) → WholeCells k (runFrom k sp n p steps .cells)
+  unfolding runFrom
+  run-cells sp n p [] = none
+  run-cells sp n p (st ∷ rest) = followed-cells n (stepped k sp p st) _ (stepped-whole sp p st) (run-cells sp (n + 1) (stepped k sp p st .placer) rest)
+
+  ran-cells : (s : Sheet) (known : Bool) (m : Memory) (sizing : Bool) (p : Placer) → WholeCells k (ranWith k s known m sizing p .cells)
+  unfolding ranWith begun
+  ran-cells s known m sizing p = go (s .«has_grid»)
+    where
+      g : PlacerAnswer
+      g = gridded (s .heading) (s .options) known m sizing p
+
+      go : (b : Bool) → WholeCells k (cond b (followed 2 (called g) (runFrom k (s .heading .spacing) 3 (g .placer) (s .steps))) (runFrom k (s .heading .spacing) 2 p (s .steps)) .cells)
+      go true = followed-cells 2 (called g) _ (λ (e : g .number ≡ 0). none) (run-cells (s .heading .spacing) 3 (g .placer) (s .steps))
+      go false = run-cells (s .heading .spacing) 2 p (s .steps)
+
+  -- the W before a fault, or all of them
+  pub pass-cells : (s : Sheet) (known : Bool) (m : Memory) (sizing : Bool) → WholeCells k (pass k s known m sizing .cells)
+  unfolding pass begun
+  pass-cells s known m sizing =
+      let h = headed k (s .heading) in
+      let r = ranWith k s known m sizing (h .placer) in
+      subst (WholeCells k) (sym (outcome-cells (s .«has_grid») m (followed 1 (called h) r))) (followed-cells 1 (called h) r (λ (e : h .number ≡ 0). none) (ran-cells s known m sizing (h .placer)))
 
 -- ---- the plate without a grid: the placer stays whole
 module _ (k : ℕ) (l : k ≤ 6) (sp : Vec2) (S : WholeSize k sp) where
@@ -136,12 +171,20 @@ module _ (k : ℕ) (l : k ≤ 6) (sp : Vec2) (S : WholeSize k sp) where
   plain-run (WholeSteps.minWidth {w = v} {rest = rest} e t) = on-plain (MinWidth v) rest (λ p i. min-width-plain p i v) (plain-run t)
   plain-run (WholeSteps.minHeight {h = v} {rest = rest} e t) = on-plain (MinHeight v) rest (λ p i. min-height-plain p i v) (plain-run t)
 
+-- ---- the plate of a refused pass
+pub zero-edge : (k : ℕ) → Edge k zeroF
+unfolding ofBits
+zero-edge k = record { steps = pos 0; few = omega arith; is = sym (val-zero k) }
+
+pub zero-rect : (k : ℕ) → WholeRect k zeroRect
+zero-rect k = let e = zero-edge k in record { left = e; top = e; right = e; bottom = e }
+
 -- ---- the pass
 pub record WholePass (k : ℕ) (s : Sheet) (known : Bool) (m : Memory) (sizing : Bool) : Type 0 where
   pub cells : WholeCells k (pass k s known m sizing .cells)
   pub plate : WholeRect k (pass k s known m sizing .plate)
 
-module _ (k : ℕ) (l : k ≤ 6) (s : Sheet) (w : WholeSheet k s) (known : Bool) (m : Memory) (sizing : Bool) (h : pass k s known m sizing .number ≡ 0) where
+module _ (k : ℕ) (l : k ≤ 6) (s : Sheet) (w : WholeSheet k s) (known : Bool) (m : Memory) (sizing : Bool) where
   min-whole : (p : Placer) → WholeRect k (p .region .«min_rect») → WholeRect k (plateOf p)
   unfolding plateOf
   min-whole p r = r
@@ -149,21 +192,23 @@ module _ (k : ℕ) (l : k ≤ 6) (s : Sheet) (w : WholeSheet k s) (known : Bool)
   starts-plain : PlainPass k s known m sizing → Plain k l (s .heading .spacing) (w .spacing) (start k s known m sizing)
   starts-plain p = record { plain = (unfold newPlacer in refl); whole = new-whole k l (s .heading .«max_rect») (s .heading .layout) (w .rect) (p .begin) }
 
-  whole-by : (b : Bool) → s .«has_grid» ≡ b → WholePass k s known m sizing
-  whole-by true g =
+  plate-by : (b : Bool) → s .«has_grid» ≡ b → pass k s known m sizing .number ≡ 0 → WholeRect k (pass k s known m sizing .plate)
+  plate-by true g h =
       let p = grid-pass k s known m sizing g h in
       let t = passed-through k l s w known m sizing g h in
-      record {
-        cells = subst (WholeCells k) (sym (p .cells)) (run-cells k (omega arith) (s .heading .spacing) 3 (gridStart k s known m sizing) (s .steps) (p .run));
-        plate = subst (WholeRect k) (sym (p .plate)) (min-whole _ (t .last .tops .inner));
-      }
-  whole-by false g =
+      subst (WholeRect k) (sym (p .plate)) (min-whole _ (t .last .tops .inner))
+  plate-by false g h =
       let p = plain-pass k s known m sizing g h in
       let t = plain-run k l (s .heading .spacing) (w .spacing) (w .steps) 2 (start k s known m sizing) (starts-plain p) (p .run) in
-      record {
-        cells = subst (WholeCells k) (sym (p .cells)) (run-cells k (omega arith) (s .heading .spacing) 2 (start k s known m sizing) (s .steps) (p .run));
-        plate = subst (WholeRect k) (sym (p .plate)) (min-whole _ (t .whole .inner));
-      }
+      subst (WholeRect k) (sym (p .plate)) (min-whole _ (t .whole .inner))
+
+  plate-whole : WholeRect k (pass k s known m sizing .plate)
+  unfolding pass
+  plate-whole = go (outcome-ends _ m _)
+    where
+      go : Ended (pass k s known m sizing) → WholeRect k (pass k s known m sizing .plate)
+      go (well z a) = plate-by (s .«has_grid») refl z
+      go (badly n e) = subst (WholeRect k) (sym e) (zero-rect k)
 
   pub whole-pass : WholePass k s known m sizing
-  whole-pass = whole-by (s .«has_grid») refl
+  whole-pass = record { cells = pass-cells k (omega arith) s known m sizing; plate = plate-whole }

@@ -8,7 +8,7 @@ use lib.ListN.{replicate}
 use Rattle.emath.specs.Rectangles.{roundUi, alignOn}
 use Rattle.emath.specs.Steps.{val}
 use Rattle.emath.specs.declared.Align.the-variants.{Center}
-use Rattle.grid.specs.Memories.{widths, heights}
+use Rattle.grid.specs.Memories.{emptyMemory, widths, heights}
 use Rattle.text.specs.Lines.{line, texts}
 use Rattle.sheet.specs.Pass.{Cell, Outcome}
 use Rattle.price_clause.specs.Passes.{passes}
@@ -78,11 +78,11 @@ without-grid frames plate = pos 0 ∷ pos 0 ∷ (edges plate ++ twiceEach frames
 
 -- pass n of a text, from 0
 abbrev pub pass-of : List ℕ → ℕ → List ℤ
-pass-of text n = told (passes 5 (sheetIn text) n)
+pass-of text n = told (passes 5 (sheetIn text) emptyMemory n)
 
 -- a refusal's number and record
 abbrev pub refusal-of : List ℕ → List ℤ
-refusal-of text = (pos (passes 5 (sheetIn text) 0 .number) ∷ pos (passes 5 (sheetIn text) 0 .at) ∷ [])
+refusal-of text = (pos (passes 5 (sheetIn text) emptyMemory 0 .number) ∷ pos (passes 5 (sheetIn text) emptyMemory 0 .at) ∷ [])
 
 abbrev pub refused : ℕ → ℕ → List ℤ
 refused number at = (pos number ∷ pos at ∷ [])

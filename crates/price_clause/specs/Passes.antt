@@ -1,10 +1,11 @@
--- Passes one after the other over a grid's sheet. Document 01, "Grid memory".
+-- Passes one after the other over a grid's sheet.
 use Prim.Native.Nat.{ℕ, zero, suc}
 use mathlib.Core.Bool.{true, false}
-use Rattle.grid.specs.Memories.{emptyMemory}
+use Rattle.grid.specs.declared.Memory.{Memory}
 use Rattle.sheet.specs.Pass.{Sheet, Outcome, pass}
 
--- the first is without memory and sizing; each later one is given the memory that the last one gave, and is not: pass n, from 0
-unfoldable pub passes : ℕ → Sheet → ℕ → Outcome
-passes k s zero = pass k s false emptyMemory true
-passes k s (suc n) = pass k s true (passes k s n .memory) false
+-- pass n, from 0: the first is sizing and without memory, so the value m beside the flag means nothing; each later one has the memory that the
+-- one before gave, and is not sizing
+unfoldable pub passes : ℕ → Sheet → Memory → ℕ → Outcome
+passes k s m zero = pass k s false m true
+passes k s m (suc n) = pass k s true (passes k s m n .memory) false

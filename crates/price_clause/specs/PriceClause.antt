@@ -7,7 +7,7 @@ use Prim.Native.Nat.{ℕ, _+_, _<_}
 use lib.ListN.{length}
 use Rattle.emath.specs.Rectangles.{zeroF}
 use Rattle.layout.specs.Steps.{WholeRect}
-use Rattle.grid.specs.Memories.{emptyMemory, colWidth}
+use Rattle.grid.specs.Memories.{colWidth}
 use Rattle.grid.specs.declared.Memory.{Memory}
 use Rattle.sheet.specs.Pass.{Sheet, Cell, Outcome, pass}
 use Rattle.price_clause.specs.Passes.{passes}
@@ -37,31 +37,32 @@ pub record OfText (s : Sheet) : Type 0 where
   pub text : List ℕ
   pub is : s ≡ sheetIn text
 
--- `Is` says which sheets are meant
+-- `Is` says which sheets are meant. A memory m that goes with `passes` stands beside a flag that is clear, and can be any.
 pub record PriceClause (k : ℕ) (Is : Sheet → Type 0) : Type 0 where
-  -- two strips, "alike in everything but their controls' sizes, each control of the second being at least as wide and as tall"; a memory
-  -- means nothing to them
+  -- two strips, the second with controls that are larger or the same, and nothing else changed; a memory means nothing to them
   pub strips : (a b : Sheet) → Is a → Is b → GrownSheet a b → Strip a → NoNegativeSpacing a
       → (known known′ : Bool) (m m′ : Memory) (sizing sizing′ : Bool) → Accepted (pass k a known m sizing) → Accepted (pass k b known′ m′ sizing′)
       → NoLess k (pass k a known m sizing) (pass k b known′ m′ sizing′)
-  -- two grids, "being settled by two passes, the first without memory, the second with the first's"
-  pub grids : (a b : Sheet) → Is a → Is b → GrownSheet a b → a .«has_grid» ≡ true → NoNegativeSpacing a
-      → Accepted (passes k a 0) → Accepted (passes k a 1) → Accepted (passes k b 0) → Accepted (passes k b 1) → NoLess k (passes k a 1) (passes k b 1)
-  -- "each column holding cells is, in every accepted pass, exactly as wide as the larger of the minimum and its widest control": with any
-  -- records, any given memory, sizing or not
+  -- two grids, from their second passes
+  pub grids : (a b : Sheet) → Is a → Is b → GrownSheet a b → a .«has_grid» ≡ true → NoNegativeSpacing a → (m m′ : Memory)
+      → Accepted (passes k a m 0) → Accepted (passes k a m 1) → Accepted (passes k b m′ 0) → Accepted (passes k b m′ 1)
+      → NoLess k (passes k a m 1) (passes k b m′ 1)
+  -- a column that holds cells is as wide as the larger of the minimum and its widest control, in every accepted pass: with any records, any
+  -- memory or none, sizing or not
   pub columns : (s : Sheet) → Is s → s .«has_grid» ≡ true → (known : Bool) (m : Memory) (sizing : Bool) → Accepted (pass k s known m sizing)
       → (c : ℕ) → 0 < length (inColumn c 0 (s .steps))
       → (c < pass k s known m sizing .memory .cols) × (colWidth (pass k s known m sizing .memory) c zeroF ≡ widest (s .options .«min_cell_size» .x) (inColumn c 0 (s .steps)))
-  -- "Where each W of its two passes finds the cursor's top on a whole tick …, all further passes, however many, each given the memory that
-  -- the last one gave, are accepted and give the second pass's rectangles, plate and memory again": pass n + 2, from 0, is the second again
-  pub further : (s : Sheet) → Is s → s .«has_grid» ≡ true → Accepted (passes k s 0) → Accepted (passes k s 1)
-      → TopsOnSteps k s false emptyMemory true → TopsOnSteps k s true (passes k s 0 .memory) false → (n : ℕ) → passes k s (n + 2) ≡ passes k s 1
-  -- "… as always without K"
+  -- where each W of the first two passes finds the cursor's top on a whole step, every pass after the second is the second again
+  pub further : (s : Sheet) → Is s → s .«has_grid» ≡ true → (m : Memory) → Accepted (passes k s m 0) → Accepted (passes k s m 1)
+      → TopsOnSteps k s false m true → TopsOnSteps k s true (passes k s m 0 .memory) false → (n : ℕ) → passes k s m (n + 2) ≡ passes k s m 1
+  -- which each W does where there is no K
   pub without-K : (s : Sheet) → Is s → s .«has_grid» ≡ true → NoK (s .steps) → (known : Bool) (m : Memory) (sizing : Bool)
       → Accepted (pass k s known m sizing) → TopsOnSteps k s known m sizing
-  -- beyond the demand: with K too, so that `further` holds of every accepted grid sheet
+  -- more than was asked: it does so with K too, and the passes after the second need no such condition
   pub always : (s : Sheet) → Is s → s .«has_grid» ≡ true → (known : Bool) (m : Memory) (sizing : Bool) → Accepted (pass k s known m sizing)
       → TopsOnSteps k s known m sizing
-  -- "Every such edge is a whole tick": of frames, widgets and plates
-  pub whole : (s : Sheet) → Is s → (known : Bool) (m : Memory) (sizing : Bool) → Accepted (pass k s known m sizing)
+  pub all-further : (s : Sheet) → Is s → s .«has_grid» ≡ true → (m : Memory) → Accepted (passes k s m 0) → Accepted (passes k s m 1)
+      → (n : ℕ) → passes k s m (n + 2) ≡ passes k s m 1
+  -- whole steps: the frame and the widget of every W before a fault, or of all, and the plate
+  pub whole : (s : Sheet) → Is s → (known : Bool) (m : Memory) (sizing : Bool)
       → WholeCells k (pass k s known m sizing .cells) × WholeRect k (pass k s known m sizing .plate)

@@ -1,12 +1,14 @@
 -- An accepted pass: H is accepted, so is G where there is one, so is every record after them; and what the pass gives is what the last
 -- placer holds. Assumes nothing.
-use Prim.Native.Nat.{ℕ, zero, suc}
+use Prim.Native.Nat.{ℕ, zero, suc, _<_}
 use mathlib.Core.Path.{_≡_, refl, ap, sym, _∙_, subst}
 use mathlib.Core.Bool.{Bool, true, false, cond}
 use native.Mathlib.Omega.{arith}
 use lib.Dec.{eqb}
+use borrow.Author.Tests.{eqb-false}
 use Rattle.emath.specs.Refusals.{rectFault}
 use Rattle.emath.proofs.Refusals.{or-none}
+use Rattle.layout.specs.Refusals.{zeroRect}
 use Rattle.grid.specs.Grids.{newGrid, save}
 use Rattle.grid.specs.Refusals.{gridAnswer}
 use Rattle.grid.specs.Operations.{checkedNew}
@@ -45,6 +47,20 @@ given grid m r h = go (r .number) refl
         let g : Given grid m r (whole true) = record { run = e; cells = refl; plate = refl; memory = refl; save = refl } in
         subst (λ (n : ℕ). Given grid m r (whole (eqb n 0))) (sym e) g
     go (suc n) e = absurd (let f : suc n ≡ 0 = rw (some n) at (rw e at h) in omega arith)
+
+-- ---- an outcome is accepted, at no record, or has a plate of zeros
+pub data Ended (o : Outcome) : Type 0 where
+  well : o .number ≡ 0 → o .at ≡ 0 → Ended o
+  badly : 0 < o .number → o .plate ≡ zeroRect → Ended o
+
+pub outcome-ends : (grid : Bool) (m : Memory) (r : Ran) → Ended (outcomeOf grid m r)
+unfolding outcomeOf
+outcome-ends grid m r = go (eqb (r .number) 0) refl
+  where
+    go : (b : Bool) → eqb (r .number) 0 ≡ b
+        → Ended (cond b (record { number = 0; at = 0; cells = r .cells; plate = plateOf (r .placer); memory = remembered grid m (r .placer) .memory; save = remembered grid m (r .placer) .save }) (refusedAt (r .number) (r .at) (r .cells) m))
+    go true e = well refl refl
+    go false e = badly (omega (arith, eqb-false (r .number) 0 e)) refl
 
 -- ---- H
 pub headed-is : (k : ℕ) (h : Heading) → headed k h .number ≡ 0

@@ -9,7 +9,7 @@ use lib.IntN.{ℤ}
 use lib.Dec.{eqb, ltb}
 use borrow.Author.Tests.{ltb-true, ltb-false}
 use lib.ListN.{length, take, drop, length-append, drop-of-length-le}
-use lib.Seq.{sets-eq, drop-nil}
+use lib.Seq.{sets-eq, length-sets, drop-nil}
 use lib.Ieee.{Float}
 use Rattle.emath.specs.declared.Vec2.{Vec2}
 use Rattle.grid.specs.declared.Memory.{Memory}
@@ -21,6 +21,7 @@ use Rattle.records.proofs.Reached.{records-step}
 use Rattle.records.proofs.Keeping.{kept-next}
 use Rattle.sheet.specs.Passing.{Room}
 use Rattle.records.specs.Sheets.{recordsFrom, records, after, misplaced, widgets, widget, widgetStep, isEmpty, pick, sized, checked}
+use Rattle.records.specs.declared.Checked.{Checked}
 use Rattle.records.specs.declared.Checked.the-variants.{Accepted, Refused}
 use Rattle.records.specs.declared.Heading.{Heading}
 use Rattle.records.specs.declared.Step.{Step}
@@ -78,7 +79,7 @@ ran-few k s known m sizing p = go (s .«has_grid»)
         omega (arith, f)
     go false = run-few k (s .heading .spacing) 2 p (s .steps)
 
-outcome-cells : (grid : Bool) (m : Memory) (r : Ran) → outcomeOf grid m r .cells ≡ r .cells
+pub outcome-cells : (grid : Bool) (m : Memory) (r : Ran) → outcomeOf grid m r .cells ≡ r .cells
 unfolding outcomeOf
 outcome-cells grid m r = go (eqb (r .number) 0)
   where
@@ -167,6 +168,15 @@ room-after text room r w sizes l k e =
     record { plain = omega (arith, h, a); grid = omega (arith, h, a, b); places = l; kept = next; kept-grid = kept-next text sizes (nextAt text 0) 2 511 next }
 
 -- ---- the slice
+-- it stays as long as it was
+pub laid-length : (text : List ℕ) (known : Bool) (m : Memory) (sizing : Bool) (out : List ℤ) → length (laid text known m sizing out .slice) ≡ length out
+unfolding laid judged
+laid-length text known m sizing out = go (checked text (length out))
+  where
+    go : (c : Checked) → length (judged c text known m sizing out .slice) ≡ length out
+    go (Refused n at) = refl
+    go (Accepted r w) = length-sets out 0 (written (pass 5 (sheetIn text) known m sizing .cells))
+
 module _ (text : List ℕ) (known : Bool) (m : Memory) (sizing : Bool) (out : List ℤ) where
   abbrev pub cells : List Cell
   cells = pass 5 (sheetIn text) known m sizing .cells

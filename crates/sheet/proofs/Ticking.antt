@@ -24,11 +24,13 @@ casts x e =
     let E = edge-small 5 (omega arith) e in
     rw (thirty-two, e .is) (points-to-steps 5 (omega arith) (e .steps) (omega (arith, E)) .0)
 
+pub ticks-are : (x : Float) (e : Edge 5 x) → ticks 5 x ≡ e .steps
+ticks-are x e = ap (λ (y : Float). ticks 5 y) (e .is) ∙ points-to-steps 5 (omega arith) (e .steps) (omega (arith, edge-small 5 (omega arith) e)) .1
+
 pub counted-in-ticks : (x : Float) → Edge 5 x → toZ w32 (ofZ w32 (toSigned 31 (mul binary32 x (ofBits binary32 1107296256)))) ≡ ticks 5 x
 counted-in-ticks x e =
-    let E = edge-small 5 (omega arith) e in
-    let v : ticks 5 x ≡ e .steps = ap (λ (y : Float). ticks 5 y) (e .is) ∙ points-to-steps 5 (omega arith) (e .steps) (omega (arith, E)) .1 in
-    ap (λ (y : Float). toZ w32 (ofZ w32 (toSigned 31 (mul binary32 x y)))) thirty-two ∙ ap (λ (z : ℤ). toZ w32 (ofZ w32 z)) v ∙ back32 (omega arith) E ∙ sym v
+    let v = ticks-are x e in
+    ap (λ (y : Float). toZ w32 (ofZ w32 (toSigned 31 (mul binary32 x y)))) thirty-two ∙ ap (λ (z : ℤ). toZ w32 (ofZ w32 z)) v ∙ back32 (omega arith) (edge-small 5 (omega arith) e) ∙ sym v
 
 -- eight numbers one after the other
 pub eight-put : (out : List ℤ) (at : ℕ) (a b c d e f g h : ℤ)

@@ -1,5 +1,5 @@
 -- The pass as the code walks it over a text is the rule's: the answer is that of `laid`, and so is the slice. Assumes nothing.
-use Prim.Native.Nat.{ℕ, _+_, _-_, _<_}
+use Prim.Native.Nat.{ℕ, _+_, _<_}
 use mathlib.Core.Path.{_≡_, refl, ap, sym, _∙_, subst}
 use mathlib.Core.Bool.{Bool, true, false, cond}
 use mathlib.Core.List.{List, [], _∷_, _++_}
@@ -24,7 +24,7 @@ use Rattle.records.specs.declared.Checked.{Checked}
 use Rattle.records.specs.declared.Checked.the-variants.{Accepted, Refused}
 use Rattle.sheet.specs.Pass.{Sheet, Outcome, Ran, called, followed, runFrom, headed, gridded, plateOf, remembered, refusedAt, outcomeOf, begun, ranWith, pass}
 use Rattle.sheet.specs.Texts.{stepsOf, afterHeading, sheetOf, sheetIn}
-use Rattle.sheet.specs.Slices.{written, passedOf, LaidOut, judged, laid}
+use Rattle.sheet.specs.Slices.{written, passedOf, LaidOut, Called, judged, laid}
 use Rattle.sheet.specs.declared.Passed.{Passed}
 use Rattle.sheet.specs.Passing as passing
 use Rattle.sheet.specs.Passing.{ranOf, Answer, turnedBack, goneOn, plainOn, gridOn, afterHead, fromHeading, fromRecord, fromCheck, passIn}
@@ -210,14 +210,7 @@ walked-is-laid text known m sizing out = go (checked text (length out)) refl
     go (Accepted r w) e = let f = no-fault text (length out) r w e in from-accepted text known m sizing out (f .some) (f .well)
 
 pub as-laid : (text : List ℕ) (known : Bool) (m : Memory) (sizing : Bool) (out : List ℤ) (p : Passed) (now : List ℤ)
-    → (p ≡ passIn text known m sizing out .passed) × (now ≡ passIn text known m sizing out .slice)
-    → (p ≡ passedOf (laid text known m sizing out .outcome)) × (now ≡ laid text known m sizing out .slice)
+    → (p ≡ passIn text known m sizing out .passed) × (now ≡ passIn text known m sizing out .slice) → Called text known m sizing out p now
 as-laid text known m sizing out p now (e, f) =
     let w = walked-is-laid text known m sizing out in
-    (e ∙ ap (λ (a : Answer). a .passed) w, f ∙ ap (λ (a : Answer). a .slice) w)
-
--- the same beside another fact
-pub laid-with : {X : Type 0} (text : List ℕ) (known : Bool) (m : Memory) (sizing : Bool) (out : List ℤ) (p : Passed) (now : List ℤ)
-    → (p ≡ passIn text known m sizing out .passed) × (now ≡ passIn text known m sizing out .slice) → X
-    → (p ≡ passedOf (laid text known m sizing out .outcome)) × (now ≡ laid text known m sizing out .slice) × X
-laid-with text known m sizing out p now e x = let l = as-laid text known m sizing out p now e in (l .0, l .1, x)
+    record { answer = e ∙ ap (λ (a : Answer). a .passed) w; slice = f ∙ ap (λ (a : Answer). a .slice) w }

@@ -29,7 +29,7 @@ ghost use Rattle.records.specs.Sheets.{recordsFrom, widgets, checked};
 ghost use Rattle.records.specs.declared.Checked.the-variants.{Accepted};
 ghost use Rattle.records.specs.Keeping.{Kept};
 ghost use Rattle.sheet.specs.Passing.{Room, goneOn, plainOn, gridOn, afterHead, fromHeading, fromRecord, Known};
-ghost use Rattle.sheet.specs.Slices.{passedOf, laid};
+ghost use Rattle.sheet.specs.Slices.{Called};
 
 // Record n gave a placer: the records from `from` on, or n's refusal.
 fn go_on(
@@ -233,7 +233,7 @@ pub fn pass_again(
     out: &mut [i32],
 ) -> Passed
     requires { ⌜ Known (now text) (length (now out)) (now sizes) ⌝ }
-    ensures { λ p. ⌜ (p ≡ passedOf (laid (now (text .entry)) known memory sizing (now (out .entry)) .outcome)) × (now (out .exit) ≡ laid (now (text .entry)) known memory sizing (now (out .entry)) .slice) ⌝ }
+    ensures { λ p. ⌜ Called (now (text .entry)) known memory sizing (now (out .entry)) p (now (out .exit)) ⌝ }
 {
     from_record(
         read_record(text, 0),
@@ -256,7 +256,7 @@ pub fn pass_keeping(
     out: &mut [i32],
 ) -> Passed
     requires { ⌜ length (now sizes) ≡ 1026 ⌝ }
-    ensures { λ p. ⌜ (p ≡ passedOf (laid (now (text .entry)) known memory sizing (now (out .entry)) .outcome)) × (now (out .exit) ≡ laid (now (text .entry)) known memory sizing (now (out .entry)) .slice) × ((r w : ℕ) → checked (now (text .entry)) (length (now (out .entry))) ≡ Accepted r w → Room (now (text .entry)) (length (now (out .entry))) (now (sizes .exit))) ⌝ }
+    ensures { λ p. ⌜ Called (now (text .entry)) known memory sizing (now (out .entry)) p (now (out .exit)) × ((r w : ℕ) → checked (now (text .entry)) (length (now (out .entry))) ≡ Accepted r w → Room (now (text .entry)) (length (now (out .entry))) (now (sizes .exit))) ⌝ }
 {
     let room = out.len();
     match check_keeping(text, room, sizes) {
@@ -278,7 +278,7 @@ pub fn pass_keeping(
 // One pass over the text, with the memory (where it is known) and sizing or not. After 1 to 3 the slice is untouched; later the W before the
 // fault have their eight places, and every other place holds what it held.
 pub fn pass(text: &[u8], known: bool, memory: Memory, sizing: bool, out: &mut [i32]) -> Passed
-    ensures { λ p. ⌜ (p ≡ passedOf (laid (now (text .entry)) known memory sizing (now (out .entry)) .outcome)) × (now (out .exit) ≡ laid (now (text .entry)) known memory sizing (now (out .entry)) .slice) ⌝ }
+    ensures { λ p. ⌜ Called (now (text .entry)) known memory sizing (now (out .entry)) p (now (out .exit)) ⌝ }
 {
     let mut sizes: [f32; KEPT] = [0.0; KEPT];
     pass_keeping(text, &mut sizes, known, memory, sizing, out)

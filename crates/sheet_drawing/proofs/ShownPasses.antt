@@ -164,30 +164,30 @@ module _ (text : List ℕ) (r w : ℕ) (e : checked text 4096 ≡ checked-of.Acc
       let b = pass-all 5 (sheetIn text) known m sizing z in
       let d = pass-few 5 (sheetIn text) known m sizing in
       let t = room-there text 4096 r w e in
-      let v = whole-pass 5 (omega arith) (sheetIn text) (text-whole text) known m sizing z in
+      let v = whole-pass 5 (omega arith) (sheetIn text) (text-whole text) known m sizing in
       shows grid (records text) (pass 5 (sheetIn text) known m sizing) f (omega (arith, a, b, d)) (omega (arith, a, d, t)) (v .cells) (v .plate)
 
   list-is : printed (sheetIn text) .number ≡ 0 → listOf text ≡ acceptedLines grid (records text) (printed (sheetIn text))
   unfolding listOf answered outcomeLines
   list-is z = rw (e, eq-eqb (printed (sheetIn text) .number) 0 z)
 
-  first-accepted : eqb (passes 5 (sheetIn text) 0 .number) 0 && grid ≡ true → passes 5 (sheetIn text) 0 .number ≡ 0
-  first-accepted h = go (eqb (passes 5 (sheetIn text) 0 .number) 0) refl h
+  first-accepted : eqb (passes 5 (sheetIn text) emptyMemory 0 .number) 0 && grid ≡ true → passes 5 (sheetIn text) emptyMemory 0 .number ≡ 0
+  first-accepted h = go (eqb (passes 5 (sheetIn text) emptyMemory 0 .number) 0) refl h
     where
-      go : (b : Bool) → eqb (passes 5 (sheetIn text) 0 .number) 0 ≡ b → b && grid ≡ true → passes 5 (sheetIn text) 0 .number ≡ 0
-      go true t h = eqb-true (passes 5 (sheetIn text) 0 .number) 0 t
+      go : (b : Bool) → eqb (passes 5 (sheetIn text) emptyMemory 0 .number) 0 ≡ b → b && grid ≡ true → passes 5 (sheetIn text) emptyMemory 0 .number ≡ 0
+      go true t h = eqb-true (passes 5 (sheetIn text) emptyMemory 0 .number) 0 t
       go false t h = no-such h
 
   -- the first pass, and the second
-  first-shown : passes 5 (sheetIn text) 0 .number ≡ 0 → Shows grid (acceptedLines grid (records text) (passes 5 (sheetIn text) 0)) (passes 5 (sheetIn text) 0)
+  first-shown : passes 5 (sheetIn text) emptyMemory 0 .number ≡ 0 → Shows grid (acceptedLines grid (records text) (passes 5 (sheetIn text) emptyMemory 0)) (passes 5 (sheetIn text) emptyMemory 0)
   unfolding passes
   first-shown z = pass-shown false emptyMemory true z (λ (g : grid ≡ true). first-whole (sheetIn text) (text-whole text) g z)
 
-  second-shown : passes 5 (sheetIn text) 0 .number ≡ 0 → passes 5 (sheetIn text) 1 .number ≡ 0 → Shows grid (acceptedLines grid (records text) (passes 5 (sheetIn text) 1)) (passes 5 (sheetIn text) 1)
+  second-shown : passes 5 (sheetIn text) emptyMemory 0 .number ≡ 0 → passes 5 (sheetIn text) emptyMemory 1 .number ≡ 0 → Shows grid (acceptedLines grid (records text) (passes 5 (sheetIn text) emptyMemory 1)) (passes 5 (sheetIn text) emptyMemory 1)
   unfolding passes
-  second-shown one two = pass-shown true (passes 5 (sheetIn text) 0 .memory) false two (λ (g : grid ≡ true). second-whole (sheetIn text) (text-whole text) g one two)
+  second-shown one two = pass-shown true (passes 5 (sheetIn text) emptyMemory 0 .memory) false two (λ (g : grid ≡ true). second-whole (sheetIn text) (text-whole text) g one two)
 
-  which-shown : (b : Bool) → eqb (passes 5 (sheetIn text) 0 .number) 0 && grid ≡ b → printed (sheetIn text) .number ≡ 0
+  which-shown : (b : Bool) → eqb (passes 5 (sheetIn text) emptyMemory 0 .number) 0 && grid ≡ b → printed (sheetIn text) .number ≡ 0
       → Shows grid (acceptedLines grid (records text) (printed (sheetIn text))) (printed (sheetIn text))
   unfolding printed
   which-shown true h z = rw h (second-shown (first-accepted h) (rw h at z))

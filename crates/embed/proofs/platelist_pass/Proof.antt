@@ -12,7 +12,7 @@ pass-requires : tie.Need-pass-requires
 pass-requires c κs = search needs
 
 put-passed-requires : tie.Need-put-passed-requires
-put-passed-requires c κs = plate-fits _ (laid-fit _ _ _ _ _) _ (c .before .before .before .before .before .before .before .pass .ensures .0)
+put-passed-requires c κs = plate-fits _ (laid-fit _ _ _ _ _) _ (c .before .before .before .before .before .before .before .pass .ensures .answer)
 
 same-length : tie.Need-same-length
 same-length c = search needs
@@ -21,7 +21,7 @@ returns : tie.Need-returns
 returns c =
     let s = rw (c .before .before .before .before .before .before .before .before .before .before .memory-of .ensures) at (c .before .before .before .before .before .before .before .before .pass .ensures) in
     let q = c .put-passed .ensures in
-    with-save _ _ _ _ (handed-out _ (laid-fit _ _ _ _ _) _ (s .0) _ _ _ _ _ (q .0 .0) (q .0 .1) (s .1) (q .1 .0) (q .1 .1)) (ap (λ (p : Passed). p .save) (s .0))
+    with-save _ _ _ _ (handed-out _ (laid-fit _ _ _ _ _) _ (s .answer) _ _ _ _ _ (q .0 .0) (q .0 .1) (s .slice) (q .1 .0) (q .1 .1)) (ap (λ (p : Passed). p .save) (s .answer))
 
 pub platelist-pass-spec : {M : Type 1} → statement M
 platelist-pass-spec =

@@ -22,19 +22,19 @@ slice-aggregate-pass-again : tie.Need-slice-aggregate-pass-again
 slice-aggregate-pass-again c = search needs
 
 pass-again-requires : tie.Need-pass-again-requires
-pass-again-requires c κs = let s = rw (c .before .before .before .before .before .before .before .before .before .before .before .empty-memory .ensures) at (c .before .before .before .before .before .before .before .before .pass-keeping .ensures) in known-again _ _ _ _ (record { answer = s .0; slice = s .1 }) _ (c .before .before .before .before .before .before .before .before .pass-keeping .kept .1 .1 .1 .1 .1 .0) (rw (c .before .before .before .before .before .is-accepted .ensures, c .before .before .before .before .has-grid .ensures) at (c .before .before .before .if1 .taken)) (s .2)
+pass-again-requires c κs = let s = rw (c .before .before .before .before .before .before .before .before .before .before .before .empty-memory .ensures) at (c .before .before .before .before .before .before .before .before .pass-keeping .ensures) in known-again _ _ _ _ (s .0) _ (c .before .before .before .before .before .before .before .before .pass-keeping .kept .1 .1 .1 .1 .1 .0) (rw (c .before .before .before .before .before .is-accepted .ensures, c .before .before .before .before .has-grid .ensures) at (c .before .before .before .if1 .taken)) (s .1)
 
 same-length : tie.Need-same-length
 same-length c = search needs
 
 returns : tie.Need-returns
-returns c = let s = rw (c .before .before .before .before .before .before .before .before .before .before .before .before .before .empty-memory .ensures) at (c .before .before .before .before .before .before .before .before .before .before .pass-keeping .ensures) in let d = c .before .pass-again .ensures in again _ _ _ _ (record { answer = s .0; slice = s .1 }) _ _ (record { answer = d .0; slice = d .1 }) (rw (c .before .before .before .before .before .before .before .is-accepted .ensures, c .before .before .before .before .before .before .has-grid .ensures) at (c .before .before .before .before .before .if1 .taken))
+returns c = let s = rw (c .before .before .before .before .before .before .before .before .before .before .before .before .before .empty-memory .ensures) at (c .before .before .before .before .before .before .before .before .before .before .pass-keeping .ensures) in let d = c .before .pass-again .ensures in again _ _ _ _ (s .0) _ _ d (rw (c .before .before .before .before .before .before .before .is-accepted .ensures, c .before .before .before .before .before .before .has-grid .ensures) at (c .before .before .before .before .before .if1 .taken))
 
 same-length-2 : tie.Need-same-length-2
 same-length-2 c = search needs
 
 returns-2 : tie.Need-returns-2
-returns-2 c = let s = rw (c .before .before .before .before .before .before .before .before .empty-memory .ensures) at (c .before .before .before .before .before .pass-keeping .ensures) in once _ _ _ _ (record { answer = s .0; slice = s .1 }) (rw (c .before .before .is-accepted .ensures, c .before .has-grid .ensures) at (c .if1 .left))
+returns-2 c = let s = rw (c .before .before .before .before .before .before .before .before .empty-memory .ensures) at (c .before .before .before .before .before .pass-keeping .ensures) in once _ _ _ _ (s .0) (rw (c .before .before .is-accepted .ensures, c .before .has-grid .ensures) at (c .if1 .left))
 
 pub settle-spec : {M : Type 1} → statement M
 settle-spec =

@@ -2,14 +2,15 @@
  *
  * Link target/staticlib/libembed.a, which `rt staticlib embed` proves and writes, for x86-64 Linux.
  * examples/README.md says how a sheet is written, examples/embed has a program in C and one in Rust.
- * What is said below of answers and contents is proved of the calls, for all arguments
- * (crates/embed/specs/Calls.antt).
+ * What is said below of answers, their bounds and contents is promised by the calls' contracts, which
+ * are proved for all arguments (crates/embed: src/lib.rt, specs/Calls.antt).
  *
  * For all calls:
  * - Memory. The caller owns everything. A call keeps no pointer and allocates nothing. It reads and
  *   writes no more than the lengths and array sizes given here.
  * - Pointers are aligned as their types are, and no two of them overlap. One that goes with a length
- *   may be NULL where that is 0; all others point to memory.
+ *   may be NULL where that is 0; all others point to memory. A length is no more than the elements
+ *   that are there, and these take at most PTRDIFF_MAX bytes.
  * - Texts and lists are bytes with a length, and have no NUL at their end.
  * - Threads. There is no global state: calls may run at the same time on different memory.
  * - Stack. A call takes less than PLATELIST_STACK bytes of it, as measured.
@@ -108,8 +109,8 @@ uint8_t platelist_settle(
  *                  out: the memory for the next pass; with no G as it was
  *   save           whether that memory differs from the one given, or there was none; false with no G
  *
- * The other arguments are as above. Plate, save and record are always written, and may hold anything
- * before.
+ * The other arguments are as above. Plate, save and record are always written. Plate and record may
+ * hold anything before; *save holds true or false, as every bool does.
  *
  * After a refusal the memory is as it was, the plate all zeros and save false. After 1 to 3 no place
  * was written. After a later number the controls before the record have their places, and every

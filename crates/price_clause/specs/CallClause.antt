@@ -84,18 +84,18 @@ pub record CallClause : Type 0 where
       → (m m′ : Memory) (p q : ℕ → Passed) (out out′ : ℕ → List ℤ) → InTurn a m 2 p out → InTurn b m′ 2 q out′
       → p 0 .laid ≡ Accepted → p 1 .laid ≡ Accepted → q 0 .laid ≡ Accepted → q 1 .laid ≡ Accepted
       → NoLessIn (controls (sheetIn a .steps)) (p 1) (q 1) (out 2) (out′ 2)
-  -- every accepted call on a grid, with any records, any memory or none, sizing or not: a column that holds cells is, in the memory given
-  -- back, as wide as the larger of the minimum and its widest control
+  -- every accepted call on a grid, with any records, any memory or none, sizing or not: the memory given back has, for a column that holds
+  -- cells, the width of its widest control, or the minimum where that is more
   pub columns : (text : List ℕ) → sheetIn text .«has_grid» ≡ true → (known : Bool) (m : Memory) (sizing : Bool) (out exit : List ℤ) (p : Passed)
       → Called text known m sizing out p exit → p .laid ≡ Accepted → (c : ℕ) → 0 < length (inColumn c 0 (sheetIn text .steps))
       → (c < p .memory .cols) × (colWidth (p .memory) c zeroF ≡ widest (sheetIn text .options .«min_cell_size» .x) (inColumn c 0 (sheetIn text .steps)))
-  -- any number of calls in turn on a grid, the first two accepted: where each W of those two finds the cursor's top on a whole tick, every
+  -- any number of calls in turn on a grid, the first two accepted: where the cursor's top is on a whole tick at each W of those two, every
   -- call after the second is the second again
   pub further : (text : List ℕ) → sheetIn text .«has_grid» ≡ true → (m : Memory) (count : ℕ) (p : ℕ → Passed) (out : ℕ → List ℤ)
       → InTurn text m count p out → p 0 .laid ≡ Accepted → p 1 .laid ≡ Accepted
       → TopsOnSteps 5 (sheetIn text) false m true → TopsOnSteps 5 (sheetIn text) true (p 0 .memory) false
       → (n : ℕ) → n + 2 < count → SecondAgain p out (n + 2)
-  -- which each W does in every accepted call where there is no K
+  -- which it is in every accepted call where there is no K
   pub without-K : (text : List ℕ) → sheetIn text .«has_grid» ≡ true → NoK (sheetIn text .steps)
       → (known : Bool) (m : Memory) (sizing : Bool) (out exit : List ℤ) (p : Passed) → Called text known m sizing out p exit → p .laid ≡ Accepted
       → TopsOnSteps 5 (sheetIn text) known m sizing

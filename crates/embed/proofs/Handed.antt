@@ -20,8 +20,8 @@ use Rattle.sheet.specs.Texts.{sheetIn}
 use Rattle.sheet.specs.Slices.{edges, laidOf, passedOf, LaidOut, judged, laid}
 use Rattle.sheet.specs.declared.Laid.the-variants.{Accepted, Refused}
 use Rattle.sheet.specs.declared.Passed.{Passed}
-use Rattle.price_clause.proofs.TextTicks.{text-whole}
-use Rattle.price_clause.proofs.WholeEdges.{zero-rect, whole-pass}
+use Rattle.pass_laws.proofs.TextTicks.{text-whole}
+use Rattle.pass_laws.proofs.WholeEdges.{zero-rect, whole-pass}
 use Rattle.sheet.proofs.Passes.{Ended, well, badly, outcome-ends}
 use Rattle.sheet.proofs.Shown.{some-number}
 use Rattle.listing.specs.Lists.{settledFrom, settled}

@@ -12,10 +12,10 @@ use Rattle.grid.specs.declared.Memory.{Memory}
 use Rattle.model.proofs.Embedding.{Upto, empty, upto}
 use Rattle.model.proofs.Ticks.{len}
 use Rattle.sheet.specs.Pass.{Sheet, Ran, begun, headed, ranWith, plateOf, remembered, refusedAt, outcomeOf, pass}
-use Rattle.price_clause.specs.Passes.{passes}
-use Rattle.price_clause.specs.Sheets.{WholeSheet}
-use Rattle.price_clause.proofs.Listed.{Listed, listed-empty, listed-sound}
-use Rattle.price_clause.proofs.FurtherPasses.{first-gives-back, memory-kept}
+use Rattle.sheet.specs.Passes.{passes}
+use Rattle.pass_laws.specs.WholeSheets.{WholeSheet}
+use Rattle.pass_laws.proofs.Listed.{Listed, listed-empty, listed-sound}
+use Rattle.pass_laws.proofs.FurtherPasses.{first-gives-back, memory-kept}
 use Rattle.listing.specs.Putting.{Whole, none, more, WholeMemory}
 
 ticks-whole : (ns : List ℕ) → Upto (most 5) ns → Whole (map (len 5) ns)

@@ -17,7 +17,7 @@ use Rattle.records.specs.Sheets.{records, checked}
 use Rattle.records.specs.declared.Checked.{Checked}
 use Rattle.records.specs.declared.Checked.the-variants as checked-of
 use Rattle.sheet.specs.Pass.{Outcome, pass}
-use Rattle.price_clause.specs.Passes.{passes}
+use Rattle.sheet.specs.Passes.{passes}
 use Rattle.sheet.specs.Ticks.{inTicks}
 use Rattle.sheet.specs.Texts.{sheetIn}
 use Rattle.sheet.specs.Slices.{edges, laidOf, judged, laid}
@@ -27,8 +27,8 @@ use Rattle.sheet.specs.declared.Laid.the-variants.{Accepted, Refused}
 use Rattle.sheet.specs.declared.Passed.{Passed}
 use Rattle.sheet.proofs.Slices as sheet-slices
 use Rattle.sheet.proofs.Slices.{room-there}
-use Rattle.price_clause.proofs.TextTicks.{text-whole}
-use Rattle.price_clause.proofs.WholeEdges.{whole-pass}
+use Rattle.pass_laws.proofs.TextTicks.{text-whole}
+use Rattle.pass_laws.proofs.WholeEdges.{whole-pass}
 use Rattle.sheet.proofs.WalkedPasses.{no-such, no-fault}
 use Rattle.sheet.proofs.Shown.{Shown, shown, no-number, some-number, pass-all}
 use Rattle.listing.specs.Lists.{printed, widgetLines, entryLines, memoryLines, acceptedLines, refusalLine, outcomeLines, answered, listOf, listIn}

@@ -16,7 +16,7 @@ use Rattle.records.specs.Sheets.{checked}
 use Rattle.records.specs.declared.Checked.{Checked}
 use Rattle.records.specs.declared.Checked.the-variants as checked-of
 use Rattle.sheet.specs.Pass.{Outcome, refusedAt, pass}
-use Rattle.price_clause.specs.Passes.{passes}
+use Rattle.sheet.specs.Passes.{passes}
 use Rattle.sheet.specs.Texts.{sheetIn}
 use Rattle.sheet.specs.Slices.{LaidOut, laidOf, passedOf, judged, laid}
 use Rattle.sheet.specs.Passing.{Room, Known}

@@ -22,7 +22,7 @@ use Rattle.records.specs.Records.{recordOf, rest}
 use Rattle.records.specs.Sheets.{recordsFrom, placed, misplaced, widget, widgets}
 use Rattle.records.specs.declared.Record.{Record}
 use Rattle.sheet.specs.Pass.{Cell}
-use Rattle.price_clause.specs.PriceClause.{WholeCells, more}
+use Rattle.pass_laws.specs.WholeCells.{WholeCells, more}
 use Rattle.sheet.specs.Ticks.{ticks, inTicks}
 use Rattle.sheet.specs.Slices.{edges, eight, written}
 use Rattle.listing.specs.Lists.{widgetLines, entryLines, memoryLines, refusalLine}

@@ -15,7 +15,7 @@ use Rattle.records.specs.declared.Checked.{Checked}
 use Rattle.records.specs.declared.Checked.the-variants.{Accepted, Refused}
 use Rattle.text.specs.Lines.{line}
 use Rattle.sheet.specs.Pass.{Sheet, Cell, Outcome}
-use Rattle.price_clause.specs.Passes.{passes}
+use Rattle.sheet.specs.Passes.{passes}
 use Rattle.sheet.specs.Ticks.{ticks, inTicks}
 use Rattle.sheet.specs.Slices.{edges, eight, LaidOut, laid}
 use Rattle.sheet.specs.Texts.{sheetIn}

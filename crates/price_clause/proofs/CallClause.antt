@@ -25,11 +25,12 @@ use Rattle.sheet.specs.Slices.{eight, written, passedOf, judged, laid, Called, 
 use Rattle.sheet.proofs.Ticking.{ticks-are}
 use Rattle.sheet.proofs.Slices.{written-length, laid-length, slice-is}
 use Rattle.sheet.proofs.Shown.{Shown, shown, pass-all, no-number, some-number}
-use Rattle.price_clause.specs.Passes.{passes}
+use Rattle.sheet.specs.Passes.{passes}
 use Rattle.price_clause.specs.Sheets.{FrameNoLess}
-use Rattle.price_clause.specs.PriceClause.{NoLess, OfText, WholeCells, more}
+use Rattle.pass_laws.specs.WholeCells.{WholeCells, more}
+use Rattle.price_clause.specs.PriceClause.{NoLess, OfText}
 use Rattle.price_clause.specs.CallClause.{place, frameIn, widgetIn, InTurn, NoLessIn, SecondAgain, IsTicks, RectIsTicks, WrittenWhole, CallClause}
-use Rattle.price_clause.proofs.WholeEdges.{zero-rect}
+use Rattle.pass_laws.proofs.WholeEdges.{zero-rect}
 use Rattle.price_clause.proofs.PriceClause.{price-clause}
 
 -- ---- the frames in two slices
@@ -112,7 +113,7 @@ module _ (text : List ℕ) (m : Memory) where
     module _ (r w : ℕ) (k : checked text (length (out 0)) ≡ checked-of.Accepted r w) where
       nths : (n : ℕ) → n < count → Nth n (p n) (out n) (out (suc n)) × (length (out (suc n)) ≡ length (out 0))
       unfolding passes
-      nths zero l = let x = by-rule r w 0 false m true (out 0) (out 1) (p 0) k (t .first l) refl in (x, x .long)
+      nths zero l = let x = by-rule r w 0 _ m true (out 0) (out 1) (p 0) k (t .first l) refl in (x, x .long)
       nths (suc n) l =
           let x = nths n (omega arith) in
           let y = by-rule r w (suc n) true (p n .memory) false (out (suc n)) (out (suc (suc n))) (p (suc n)) (ap (checked text) (x .1) ∙ k) (next n l) (ap (λ (q : Passed). pass 5 (sheetIn text) true (q .memory) false) (x .0 .answer)) in

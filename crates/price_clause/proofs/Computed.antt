@@ -27,7 +27,7 @@ use Rattle.records.specs.Parts as parts
 use Rattle.records.specs.Records as records
 use Rattle.records.specs.Sheets as sheets
 use Rattle.sheet.specs.Pass as pass-rules
-use Rattle.price_clause.specs.Passes as passes-rules
+use Rattle.sheet.specs.Passes as passes-rules
 use Rattle.sheet.specs.Texts as texts
 use lib.Ieee as ieee
 use Rattle.emath.specs.declared.Align.the-variants.{Center}
@@ -37,7 +37,7 @@ use Rattle.grid.specs.Memories.{emptyMemory, heights}
 use Rattle.grid.specs.declared.Memory.{Memory}
 use Rattle.text.specs.Lines.{line}
 use Rattle.sheet.specs.Pass.{Cell, Outcome, pass}
-use Rattle.price_clause.specs.Passes.{passes}
+use Rattle.sheet.specs.Passes.{passes}
 use Rattle.sheet.specs.Texts.{sheetIn}
 use Rattle.price_clause.specs.Sheets.{GrownSheet, Grown, Strip, NoNegativeSpacing}
 use Rattle.sheet.specs.Ticks.{ticks, inTicks, width, height}

@@ -23,10 +23,11 @@ use Rattle.model.proofs.Model as model
 use Rattle.model.proofs.Embedding.{Fits}
 use Rattle.model.proofs.Ticks.{len, cap}
 use Rattle.sheet.specs.Pass.{stepped, runFrom, cellOf}
-use Rattle.price_clause.specs.Sheets.{WholeSteps, Grown}
+use Rattle.pass_laws.specs.WholeSheets.{WholeSteps}
+use Rattle.price_clause.specs.Sheets.{Grown}
 use Rattle.sheet.proofs.Runs.{run-goes, widget-placed}
-use Rattle.price_clause.proofs.Widest.{zero-val}
-use Rattle.price_clause.proofs.ColumnLaw.{not-negative, edge-not-negative}
+use Rattle.pass_laws.proofs.Widest.{zero-val}
+use Rattle.pass_laws.proofs.ColumnLaw.{not-negative, edge-not-negative}
 use Rattle.price_clause.proofs.GridRun.{Counts}
 
 -- what the records count fits the domain

@@ -27,9 +27,10 @@ use Rattle.model.proofs.Engine.{HeadF, givenF, beginF}
 use Rattle.model.proofs.Embedding.{headOf, FineHeading}
 use Rattle.model.proofs.Ticks.{pt, len, edge-counted}
 use Rattle.sheet.specs.Pass.{Sheet}
-use Rattle.price_clause.specs.Sheets.{WholeSheet, NoNegativeSpacing}
+use Rattle.pass_laws.specs.WholeSheets.{WholeSheet}
+use Rattle.price_clause.specs.Sheets.{NoNegativeSpacing}
 use Rattle.sheet.proofs.Passes.{GridPass, start, gridStart}
-use Rattle.price_clause.proofs.ColumnLaw.{not-negative, least-cell}
+use Rattle.pass_laws.proofs.ColumnLaw.{not-negative, least-cell}
 use Rattle.price_clause.proofs.GridSpots.{spotAt, spotOf, givenOf}
 use Rattle.price_clause.proofs.GridSteps.{grid-direction}
 use Rattle.price_clause.proofs.GridCounts.{length-counted, gap-counted}

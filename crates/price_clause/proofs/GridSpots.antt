@@ -6,7 +6,7 @@ use mathlib.Core.Bool.{false}
 use native.Mathlib.Omega.{arith}
 use lib.ListN.{getD}
 use lib.Ieee.{Float}
-use Rattle.price_clause.proofs.Lists.{entry-get, list-raised}
+use Rattle.pass_laws.proofs.Lists.{entry-get, list-raised}
 use Rattle.emath.specs.Rectangles.{zeroF, maxF, width, height, isInfinite, union, centred, alignedTo, alignOn, alignWithin, roundRect}
 use Rattle.emath.proofs.Tests.{is-lt}
 use Rattle.emath.specs.declared.Rect.{Rect}

@@ -29,9 +29,9 @@ use Rattle.placer.proofs.Accepted.{placer-region}
 use Rattle.placer.specs.declared.Placer.{Placer}
 use Rattle.model.proofs.Engine as engine
 use Rattle.model.proofs.Floats.{ops}
-use Rattle.price_clause.proofs.ColumnRuns.{advanced-sound}
+use Rattle.pass_laws.proofs.ColumnRuns.{advanced-sound}
 use Rattle.sheet.specs.Pass.{Cell, cellOf, pastCell, widgetStep}
-use Rattle.price_clause.proofs.GridMoves.{grid-cell, frame-is, widget-is, row-ended}
+use Rattle.pass_laws.proofs.GridMoves.{grid-cell, frame-is, widget-is, row-ended}
 use Rattle.price_clause.proofs.GridSpots.{edgesOf, spotAt, spotOf, givenOf, cell-is, aligned-is, advanced-is, advanced-given, ended-is, ended-given}
 
 -- ---- a grid's directions leave the cursor's left and top closed

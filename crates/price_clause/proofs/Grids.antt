@@ -20,11 +20,12 @@ use Rattle.model.proofs.Ticks.{pt, len}
 use Rattle.model.proofs.Floats.{ops}
 use Rattle.model.proofs.InTicks.{ticks, Frame≤, Plate≤, grids-in-ticks}
 use Rattle.sheet.specs.Pass.{Sheet, Cell, Ran, runFrom, plateOf, pass}
-use Rattle.price_clause.specs.Passes.{passes}
-use Rattle.price_clause.specs.Sheets.{WholeSheet, GrownSheet, NoNegativeSpacing, FrameNoLess, PlateNoLess}
+use Rattle.sheet.specs.Passes.{passes}
+use Rattle.pass_laws.specs.WholeSheets.{WholeSheet}
+use Rattle.price_clause.specs.Sheets.{GrownSheet, NoNegativeSpacing, FrameNoLess, PlateNoLess}
 use Rattle.sheet.specs.Ticks.{inTicks}
 use Rattle.sheet.proofs.Passes.{GridPass, grid-pass, start, gridStart}
-use Rattle.price_clause.proofs.ColumnLaw.{saved-is}
+use Rattle.pass_laws.proofs.ColumnLaw.{saved-is}
 use Rattle.price_clause.proofs.GridSpots.{edgesOf, givenOf}
 use Rattle.price_clause.proofs.GridSteps.{InGrid}
 use Rattle.price_clause.proofs.GridRun.{always, Counts, outOf, Follows, run-follows}

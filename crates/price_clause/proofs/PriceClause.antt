@@ -6,16 +6,16 @@ use mathlib.Core.Bool.{true}
 use native.Mathlib.Omega.{arith}
 use Rattle.grid.specs.declared.Memory.{Memory}
 use Rattle.sheet.specs.Pass.{Sheet}
-use Rattle.price_clause.specs.Passes.{passes}
-use Rattle.price_clause.specs.Sheets.{WholeSheet}
+use Rattle.sheet.specs.Passes.{passes}
+use Rattle.pass_laws.specs.WholeSheets.{WholeSheet}
 use Rattle.price_clause.specs.PriceClause.{PriceClause, OfText}
 use Rattle.price_clause.proofs.Strips.{strips-grow}
 use Rattle.price_clause.proofs.Grids.{grids-grow}
-use Rattle.price_clause.proofs.ColumnLaw.{column-law}
-use Rattle.price_clause.proofs.FurtherPasses.{further-passes}
-use Rattle.price_clause.proofs.WholeTops.{always-on-steps, without-K}
-use Rattle.price_clause.proofs.WholeEdges.{whole-pass}
-use Rattle.price_clause.proofs.TextTicks.{text-whole}
+use Rattle.pass_laws.proofs.ColumnLaw.{column-law}
+use Rattle.pass_laws.proofs.FurtherPasses.{further-passes}
+use Rattle.pass_laws.proofs.WholeTops.{always-on-steps, without-K}
+use Rattle.pass_laws.proofs.WholeEdges.{whole-pass}
+use Rattle.pass_laws.proofs.TextTicks.{text-whole}
 
 -- of any kind of sheets whose lengths are whole steps
 pub clause-of : (k : ℕ) → k ≤ 6 → (Is : Sheet → Type 0) → ((s : Sheet) → Is s → WholeSheet k s) → PriceClause k Is

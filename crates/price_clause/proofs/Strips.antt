@@ -25,7 +25,8 @@ use Rattle.records.specs.declared.Heading.{Heading}
 use Rattle.records.specs.declared.Step.{Step}
 use Rattle.records.specs.declared.Step.the-variants.{Widget, RowEnd}
 use Rattle.sheet.specs.Pass.{Sheet, Cell, Ran, runFrom, plateOf, pass}
-use Rattle.price_clause.specs.Sheets.{WholeSteps, WholeSheet, Grown, GrownSheet, NoNegativeSpacing, Strip, FrameNoLess, PlateNoLess}
+use Rattle.pass_laws.specs.WholeSheets.{WholeSteps, WholeSheet}
+use Rattle.price_clause.specs.Sheets.{Grown, GrownSheet, NoNegativeSpacing, Strip, FrameNoLess, PlateNoLess}
 use Rattle.sheet.specs.Ticks.{ticks, inTicks}
 use Rattle.sheet.proofs.Passes.{plain-pass, start}
 use Rattle.price_clause.proofs.StripPlaces.{Place, placerAt, Few, Sound, le-steps, zero-steps, startOf, strip-starts}

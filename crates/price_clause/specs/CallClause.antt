@@ -20,8 +20,8 @@ use Rattle.sheet.specs.Ticks.{Ticks, inTicks}
 use Rattle.sheet.specs.Texts.{sheetIn}
 use Rattle.sheet.specs.Slices.{Called, laid, controls}
 use Rattle.price_clause.specs.Sheets.{GrownSheet, NoNegativeSpacing, Strip, FrameNoLess, PlateNoLess}
-use Rattle.price_clause.specs.Columns.{inColumn, widest}
-use Rattle.price_clause.specs.Tops.{TopsOnSteps, NoK}
+use Rattle.pass_laws.specs.Columns.{inColumn, widest}
+use Rattle.pass_laws.specs.Tops.{TopsOnSteps, NoK}
 
 -- ---- what a slice holds
 abbrev pub place : List ℤ → ℕ → ℕ → ℤ

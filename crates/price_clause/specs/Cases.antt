@@ -11,7 +11,7 @@ use Rattle.emath.specs.declared.Align.the-variants.{Center}
 use Rattle.grid.specs.Memories.{emptyMemory, widths, heights}
 use Rattle.text.specs.Lines.{line, texts}
 use Rattle.sheet.specs.Pass.{Cell, Outcome}
-use Rattle.price_clause.specs.Passes.{passes}
+use Rattle.sheet.specs.Passes.{passes}
 use Rattle.sheet.specs.Texts.{sheetIn}
 use Rattle.sheet.specs.Ticks.{Ticks, ticks, inTicks}
 

@@ -2,7 +2,7 @@
 -- sheets: those that are read from a text, in ticks; and, for any step of 1 / 2 ^ k point, those whose lengths are whole steps.
 use mathlib.Core.Path.{_≡_}
 use mathlib.Core.Bool.{Bool, true, false}
-use mathlib.Core.List.{List, [], _∷_, Forall₂}
+use mathlib.Core.List.{List, Forall₂}
 use Prim.Native.Nat.{ℕ, _+_, _<_}
 use lib.ListN.{length}
 use Rattle.emath.specs.Rectangles.{zeroF}
@@ -10,11 +10,12 @@ use Rattle.layout.specs.Steps.{WholeRect}
 use Rattle.grid.specs.Memories.{colWidth}
 use Rattle.grid.specs.declared.Memory.{Memory}
 use Rattle.sheet.specs.Pass.{Sheet, Cell, Outcome, pass}
-use Rattle.price_clause.specs.Passes.{passes}
+use Rattle.sheet.specs.Passes.{passes}
 use Rattle.price_clause.specs.Sheets.{GrownSheet, NoNegativeSpacing, Strip, FrameNoLess, PlateNoLess}
 use Rattle.sheet.specs.Ticks.{inTicks}
-use Rattle.price_clause.specs.Columns.{inColumn, widest}
-use Rattle.price_clause.specs.Tops.{TopsOnSteps, NoK}
+use Rattle.pass_laws.specs.WholeCells.{WholeCells}
+use Rattle.pass_laws.specs.Columns.{inColumn, widest}
+use Rattle.pass_laws.specs.Tops.{TopsOnSteps, NoK}
 use Rattle.sheet.specs.Texts.{sheetIn}
 
 -- "A pass is accepted exactly if no number of the table below applies to it"
@@ -26,11 +27,6 @@ Accepted o = o .number ≡ 0
 pub record NoLess (k : ℕ) (a b : Outcome) : Type 0 where
   pub frames : Forall₂ (λ (c d : Cell). FrameNoLess (inTicks k (c .frame)) (inTicks k (d .frame))) (a .cells) (b .cells)
   pub plate : PlateNoLess (inTicks k (a .plate)) (inTicks k (b .plate))
-
--- every edge of a W's frame and widget is a whole step of the domain
-pub data WholeCells (k : ℕ) : List Cell → Type 0 where
-  none : WholeCells k []
-  more : {c : Cell} {cs : List Cell} → WholeRect k (c .frame) → WholeRect k (c .widget) → WholeCells k cs → WholeCells k (c ∷ cs)
 
 -- a sheet that was read from a text
 pub record OfText (s : Sheet) : Type 0 where

@@ -20,16 +20,16 @@ use Rattle.records.specs.Sheets.{records, widget, widgets, checked}
 use Rattle.records.specs.declared.Record.{Record}
 use Rattle.records.specs.declared.Checked.the-variants as checked-of
 use Rattle.sheet.specs.Pass.{Cell, Outcome, pass}
-use Rattle.price_clause.specs.Passes.{passes}
-use Rattle.price_clause.specs.PriceClause.{WholeCells, more}
+use Rattle.sheet.specs.Passes.{passes}
+use Rattle.pass_laws.specs.WholeCells.{WholeCells, more}
 use Rattle.sheet.specs.Ticks.{ticks, inTicks}
 use Rattle.sheet.specs.Slices.{edges, eight}
 use Rattle.sheet.specs.Texts.{sheetIn}
 use Rattle.sheet.proofs.Shown.{pass-all}
 use Rattle.sheet.proofs.Slices.{pass-few, room-there}
-use Rattle.price_clause.proofs.TextTicks.{text-whole}
+use Rattle.pass_laws.proofs.TextTicks.{text-whole}
 use Rattle.sheet.proofs.WalkedPasses.{no-such, no-fault}
-use Rattle.price_clause.proofs.WholeEdges.{whole-pass}
+use Rattle.pass_laws.proofs.WholeEdges.{whole-pass}
 use Rattle.listing.specs.Lists.{widgetLines, printed, acceptedLines, outcomeLines, memoryLines, answered, listOf}
 use Rattle.listing.specs.Putting.{WholeMemory}
 use Rattle.listing.proofs.Memories.{first-whole, second-whole}

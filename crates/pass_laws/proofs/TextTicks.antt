@@ -21,9 +21,9 @@ use Rattle.records.specs.declared.Step.{Step}
 use Rattle.records.specs.declared.Step.the-variants.{Widget, Space, RowHeight, MaxWidth, MaxHeight, MinWidth, MinHeight, RowEnd}
 use Rattle.records.specs.declared.Record.{Record}
 use Rattle.records.specs.declared.Record.the-variants as record-of
-use Rattle.price_clause.specs.Sheets.{WholeSteps, WholeSheet}
+use Rattle.pass_laws.specs.WholeSheets.{WholeSteps, WholeSheet}
 use Rattle.sheet.specs.Texts.{stepsOf, noHeading, afterHeading, sheetOf, sheetIn}
-use Rattle.price_clause.proofs.WholeEdges.{zero-edge, zero-rect}
+use Rattle.pass_laws.proofs.WholeEdges.{zero-edge, zero-rect}
 
 points-edge : (z : ℤ) → natAbs z ≤ 2097152 → Edge 5 (points z)
 unfolding points

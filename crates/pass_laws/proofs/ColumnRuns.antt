@@ -26,11 +26,11 @@ use Rattle.placer.specs.declared.Placer.{Placer}
 use Rattle.records.specs.declared.Step.{Step}
 use Rattle.records.specs.declared.Step.the-variants.{Widget, RowEnd}
 use Rattle.sheet.specs.Pass.{stepped, runFrom, cellOf, widgetStep}
-use Rattle.price_clause.specs.Sheets.{WholeSteps, none, control, space, rowHeight, maxWidth, maxHeight, minWidth, minHeight, rowEnd}
-use Rattle.price_clause.specs.Columns.{inColumn}
+use Rattle.pass_laws.specs.WholeSheets.{WholeSteps, none, control, space, rowHeight, maxWidth, maxHeight, minWidth, minHeight, rowEnd}
+use Rattle.pass_laws.specs.Columns.{inColumn}
 use Rattle.sheet.proofs.Runs.{run-goes}
-use Rattle.price_clause.proofs.GridMoves.{grid-cell, control-width, row-ended, Other, left-alone}
-use Rattle.price_clause.proofs.ColumnWidths.{noted-width, noted-cols, count-grows, count-reaches}
+use Rattle.pass_laws.proofs.GridMoves.{grid-cell, control-width, row-ended, Other, left-alone}
+use Rattle.pass_laws.proofs.ColumnWidths.{noted-width, noted-cols, count-grows, count-reaches}
 
 -- a width raised by controls, each to its own width or the minimum
 unfoldable pub raisedBy : Float → Float → List Float → Float

@@ -15,9 +15,9 @@ use Rattle.emath.proofs.Values.{val-max}
 use Rattle.emath.proofs.Zeros.{val-zero}
 use Rattle.emath.proofs.Sums.{edge-small}
 use Rattle.records.specs.declared.Step.{Step}
-use Rattle.price_clause.specs.Sheets.{WholeSteps, none, control, space, rowHeight, maxWidth, maxHeight, minWidth, minHeight, rowEnd}
-use Rattle.price_clause.specs.Columns.{inColumn, widest}
-use Rattle.price_clause.proofs.ColumnRuns.{raisedBy}
+use Rattle.pass_laws.specs.WholeSheets.{WholeSteps, none, control, space, rowHeight, maxWidth, maxHeight, minWidth, minHeight, rowEnd}
+use Rattle.pass_laws.specs.Columns.{inColumn, widest}
+use Rattle.pass_laws.proofs.ColumnRuns.{raisedBy}
 
 -- ---- in whole steps
 unfoldable widestZ : ℤ → List ℤ → ℤ

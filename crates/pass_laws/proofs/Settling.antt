@@ -29,15 +29,15 @@ use Rattle.model.proofs.Settled.{colsFrom}
 use Rattle.model.proofs.Embedding.{Upto, upto-getD}
 use Rattle.model.proofs.Ticks.{len}
 use Rattle.sheet.specs.Pass.{stepped, runFrom, cellOf, widgetStep}
-use Rattle.price_clause.specs.Sheets.{WholeSteps}
+use Rattle.pass_laws.specs.WholeSheets.{WholeSteps}
 use Rattle.sheet.specs.Ticks.{ticks}
 use Rattle.sheet.proofs.Runs.{run-goes}
-use Rattle.price_clause.proofs.GridMoves.{GridCell, grid-cell, control-width, widget-is, row-ended, Other, left-alone}
-use Rattle.price_clause.proofs.GridTops.{OnSteps, control-on-steps, row-on-steps, other-on-steps}
-use Rattle.price_clause.proofs.ColumnRuns.{advanced-is, ended-is}
-use Rattle.price_clause.proofs.ColumnLaw.{not-negative, edge-not-negative}
-use Rattle.price_clause.proofs.Listed.{Listed, noted-listed}
-use Rattle.price_clause.proofs.RowHeights.{row-remembered, noted-height}
+use Rattle.pass_laws.proofs.GridMoves.{GridCell, grid-cell, control-width, widget-is, row-ended, Other, left-alone}
+use Rattle.pass_laws.proofs.GridTops.{OnSteps, control-on-steps, row-on-steps, other-on-steps}
+use Rattle.pass_laws.proofs.ColumnRuns.{advanced-is, ended-is}
+use Rattle.pass_laws.proofs.ColumnLaw.{not-negative, edge-not-negative}
+use Rattle.pass_laws.proofs.Listed.{Listed, noted-listed}
+use Rattle.pass_laws.proofs.RowHeights.{row-remembered, noted-height}
 
 -- ---- a sheet's controls and row ends, in whole steps
 abbrev pub count : ℕ → Float → ℕ

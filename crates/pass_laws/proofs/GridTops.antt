@@ -25,8 +25,8 @@ use Rattle.placer.proofs.WholeHeights.{advance-after-rects-down, end-row-down}
 use Rattle.placer.specs.declared.Placer.{Placer}
 use Rattle.records.specs.declared.Step.{Step}
 use Rattle.sheet.specs.Pass.{stepped, cellOf, widgetStep}
-use Rattle.price_clause.proofs.GridMoves.{GridCell, frame-is, widget-is, row-ended, LeftAlone, Other, left-alone, space, rowHeight, maxWidth, maxHeight, minWidth, minHeight}
-use Rattle.price_clause.proofs.ColumnRuns.{advanced-sound, ended-is}
+use Rattle.pass_laws.proofs.GridMoves.{GridCell, frame-is, widget-is, row-ended, LeftAlone, Other, left-alone, space, rowHeight, maxWidth, maxHeight, minWidth, minHeight}
+use Rattle.pass_laws.proofs.ColumnRuns.{advanced-sound, ended-is}
 
 -- what a grid is like where a run is
 pub record OnSteps (k : ℕ) (p : Placer) : Type 0 where

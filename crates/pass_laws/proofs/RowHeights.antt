@@ -18,7 +18,7 @@ use Rattle.grid.specs.Grids.{nextCell, alignSizeWithinRect, prevRowHeight}
 use Rattle.grid.proofs.Fair.{tall, tall-fair, widget-height}
 use Rattle.grid.specs.declared.GridLayout.{GridLayout}
 use Rattle.model.proofs.Ticks.{len, cap}
-use Rattle.price_clause.proofs.Lists.{entry-get}
+use Rattle.pass_laws.proofs.Lists.{entry-get}
 
 -- the limit is at most 2 ^ 22 steps
 few-steps : (k : ℕ) → k ≤ 6 → most k ≤ 4194304

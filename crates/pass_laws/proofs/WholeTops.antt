@@ -11,13 +11,13 @@ use Rattle.placer.specs.declared.Placer.{Placer}
 use Rattle.records.specs.declared.Step.{Step}
 use Rattle.records.specs.declared.Step.the-variants.{Widget, Space, RowHeight, MaxWidth, MaxHeight, MinWidth, MinHeight, RowEnd}
 use Rattle.sheet.specs.Pass.{Sheet, stepped, runFrom, pass}
-use Rattle.price_clause.specs.Sheets.{WholeSheet}
-use Rattle.price_clause.specs.Tops.{FindsTops, TopsOnSteps, NoK}
+use Rattle.pass_laws.specs.WholeSheets.{WholeSheet}
+use Rattle.pass_laws.specs.Tops.{FindsTops, TopsOnSteps, NoK}
 use Rattle.sheet.proofs.Runs.{run-goes}
 use Rattle.sheet.proofs.Passes.{GridPass, grid-pass, gridStart}
-use Rattle.price_clause.proofs.GridMoves.{grid-cell, Other}
-use Rattle.price_clause.proofs.GridTops.{OnSteps, control-on-steps, row-on-steps, other-on-steps}
-use Rattle.price_clause.proofs.FurtherPasses.{begins-on-steps}
+use Rattle.pass_laws.proofs.GridMoves.{grid-cell, Other}
+use Rattle.pass_laws.proofs.GridTops.{OnSteps, control-on-steps, row-on-steps, other-on-steps}
+use Rattle.pass_laws.proofs.FurtherPasses.{begins-on-steps}
 
 module _ (k : ℕ) (l : k ≤ 6) (sp : Vec2) where
   -- ---- what holds of the placer after a record

@@ -30,11 +30,11 @@ use Rattle.placer.proofs.Accepted.{placer-grid}
 use Rattle.placer.proofs.Carried.{new-sound}
 use Rattle.placer.specs.declared.Placer.{Placer}
 use Rattle.sheet.specs.Pass.{Sheet, runFrom, pass}
-use Rattle.price_clause.specs.Sheets.{WholeSheet}
-use Rattle.price_clause.specs.Columns.{inColumn, widest}
+use Rattle.pass_laws.specs.WholeSheets.{WholeSheet}
+use Rattle.pass_laws.specs.Columns.{inColumn, widest}
 use Rattle.sheet.proofs.Passes.{grid-pass, start, gridStart}
-use Rattle.price_clause.proofs.ColumnRuns.{InGrid, Raised, raisedBy, column-run}
-use Rattle.price_clause.proofs.Widest.{column-widths, raised-to-widest, zero-val}
+use Rattle.pass_laws.proofs.ColumnRuns.{InGrid, Raised, raisedBy, column-run}
+use Rattle.pass_laws.proofs.Widest.{column-widths, raised-to-widest, zero-val}
 
 -- a new grid remembers nothing
 empty-width : (c : ℕ) → colWidth emptyMemory c zeroF ≡ zeroF

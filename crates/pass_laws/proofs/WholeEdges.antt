@@ -28,15 +28,15 @@ use Rattle.placer.specs.declared.Placer.{Placer}
 use Rattle.placer.specs.declared.PlacerAnswer.{PlacerAnswer}
 use Rattle.records.specs.declared.Step.{Step}
 use Rattle.records.specs.declared.Step.the-variants.{Widget, Space, RowHeight, MaxWidth, MaxHeight, MinWidth, MinHeight, RowEnd}
-use Rattle.price_clause.specs.PriceClause.{WholeCells, none, more}
+use Rattle.pass_laws.specs.WholeCells.{WholeCells, none, more}
 use Rattle.sheet.specs.Pass.{Sheet, Cell, Stepped, Ran, cellOf, widgetStep, called, stepped, followed, runFrom, headed, gridded, begun, ranWith, plateOf, pass}
-use Rattle.price_clause.specs.Sheets.{WholeSteps, WholeSheet}
+use Rattle.pass_laws.specs.WholeSheets.{WholeSteps, WholeSheet}
 use Rattle.sheet.proofs.Runs.{widget-placed, run-goes}
 use Rattle.sheet.proofs.Passes.{Ended, well, badly, outcome-ends, grid-pass, PlainPass, plain-pass, start}
 use Rattle.sheet.proofs.PlacedCells.{WholeCell, cell-whole}
 use Rattle.sheet.proofs.Slices.{outcome-cells}
-use Rattle.price_clause.proofs.GridMoves.{LeftAlone, advance-alone, row-height-alone, max-width-alone, max-height-alone, min-width-alone, min-height-alone}
-use Rattle.price_clause.proofs.WholeTops.{passed-through}
+use Rattle.pass_laws.proofs.GridMoves.{LeftAlone, advance-alone, row-height-alone, max-width-alone, max-height-alone, min-width-alone, min-height-alone}
+use Rattle.pass_laws.proofs.WholeTops.{passed-through}
 
 -- ---- frames and widgets
 module _ (k : ℕ) (l : k ≤ 7) where

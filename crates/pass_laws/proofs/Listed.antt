@@ -27,7 +27,7 @@ use Rattle.model.proofs.Embedding.{Upto, empty, upto-lift}
 use Rattle.model.proofs.Recorded.{raised-is}
 use Rattle.model.proofs.Ticks.{len}
 use Rattle.model.proofs.Floats.{exact}
-use Rattle.price_clause.proofs.Lists.{count-max, list-raised}
+use Rattle.pass_laws.proofs.Lists.{count-max, list-raised}
 
 -- an array with a count is the list c
 pub record Counted (k : ℕ) (xs : List Float) (n : ℕ) (c : List ℕ) : Type 0 where

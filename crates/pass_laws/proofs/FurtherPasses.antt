@@ -28,13 +28,13 @@ use Rattle.model.proofs.Settled.{colsFrom}
 use Rattle.model.proofs.Embedding.{Upto, empty}
 use Rattle.model.proofs.Ticks.{len}
 use Rattle.sheet.specs.Pass.{Sheet, Outcome, runFrom, pass}
-use Rattle.price_clause.specs.Passes.{passes}
-use Rattle.price_clause.specs.Sheets.{WholeSheet}
+use Rattle.sheet.specs.Passes.{passes}
+use Rattle.pass_laws.specs.WholeSheets.{WholeSheet}
 use Rattle.sheet.proofs.Passes.{GridPass, grid-pass, start, gridStart}
-use Rattle.price_clause.proofs.GridTops.{OnSteps}
-use Rattle.price_clause.proofs.ColumnLaw.{saved-is, not-negative, least-cell, edge-not-negative}
-use Rattle.price_clause.proofs.Listed.{Listed, listed-empty, same-memory}
-use Rattle.price_clause.proofs.Settling.{count, counted, modelSteps, At, settles}
+use Rattle.pass_laws.proofs.GridTops.{OnSteps}
+use Rattle.pass_laws.proofs.ColumnLaw.{saved-is, not-negative, least-cell, edge-not-negative}
+use Rattle.pass_laws.proofs.Listed.{Listed, listed-empty, same-memory}
+use Rattle.pass_laws.proofs.Settling.{count, counted, modelSteps, At, settles}
 
 -- a grid is on direction 0 or 2
 grid-fits : (p : Placer) → p .«has_grid» ≡ true → placerFault p ≡ 0 → fitsGrid (p .layout .«main_dir») ≡ true

@@ -1,0 +1,18 @@
+-- The laws of a sheet's passes, in the order of the argument. Layers above cite them as Rattle.pass_laws.proofs.NAME.
+-- What a record does to a grid; the column law.
+pub mod GridMoves
+pub mod ColumnWidths
+pub mod ColumnRuns
+pub mod Widest
+pub mod ColumnLaw
+-- A grid's memory settles; all further passes.
+pub mod GridTops
+pub mod Lists
+pub mod Listed
+pub mod RowHeights
+pub mod Settling
+pub mod FurtherPasses
+-- Whole steps.
+pub mod WholeTops
+pub mod WholeEdges
+pub mod TextTicks

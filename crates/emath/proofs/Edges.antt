@@ -170,7 +170,7 @@ module _ (k : ℕ) (l : k ≤ 7) where
   pub within-edge : (x : Float) → T (within x) → Edge k (roundUi k x)
   within-edge x t = round-edge x (round-within x t)
 
--- ---- a finite edge of the domain is moved by at most half a step: at k = 5, by at most 1/64 point
+-- ---- a finite edge of the domain is moved by at most half a step: for a tick, by at most 1/64 point
 in-limit : (s : Bool) (m : ℕ) (e : ℤ) → T (within (fin s m e)) → m * up e ≤ 65536 * down e
 unfolding within le lt eq neg ofBits
 in-limit false m e t = omega (arith, before false (m * up e * 1) false (1 * 2 ^ 16 * down e) (and-r (le (neg limit) (fin false m e)) (le (fin false m e) limit) t))

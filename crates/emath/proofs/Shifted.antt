@@ -12,7 +12,7 @@ use lib.Ieee.Fits.{down-pos, and-l, and-r, round-fits, add-fits}
 use Rattle.emath.specs.Rectangles.{nearUp, roundF, roundUi, roundRect}
 use Rattle.emath.specs.declared.Rect.{Rect}
 use Rattle.emath.specs.Shifting.{shift, backInTicks, backRect}
-use Rattle.emath.specs.Steps.{sgn, signed, val}
+use Rattle.emath.specs.Steps.{tick, sgn, signed, val}
 use Rattle.emath.proofs.Tests.{or-split, is-yes}
 use Rattle.emath.proofs.Whole.{more, less, diff, within-natAbs}
 use Rattle.emath.proofs.Exact.{Small, val-is, sub-is}
@@ -107,9 +107,9 @@ pub shifted-back : (y : Float) → T (le least (add binary32 y shift)) → T (eq
 shifted-back y h e = sym (whole-less (add binary32 y shift) (add-fits binary32 y shift) h) ∙ round-equal (sub binary32 (add binary32 y shift) shift) y e
 
 -- ---- four edges
-module _ (r : Rect) (a b c d : Bool) (ea : a ≡ true → backInTicks (r .left) ≡ roundUi 5 (r .left)) (eb : b ≡ true → backInTicks (r .top) ≡ roundUi 5 (r .top))
-    (ec : c ≡ true → backInTicks (r .right) ≡ roundUi 5 (r .right)) (ed : d ≡ true → backInTicks (r .bottom) ≡ roundUi 5 (r .bottom)) where
-  pub all-back : a && (b && (c && d)) ≡ true → backRect r ≡ roundRect 5 r
+module _ (r : Rect) (a b c d : Bool) (ea : a ≡ true → backInTicks (r .left) ≡ roundUi tick (r .left)) (eb : b ≡ true → backInTicks (r .top) ≡ roundUi tick (r .top))
+    (ec : c ≡ true → backInTicks (r .right) ≡ roundUi tick (r .right)) (ed : d ≡ true → backInTicks (r .bottom) ≡ roundUi tick (r .bottom)) where
+  pub all-back : a && (b && (c && d)) ≡ true → backRect r ≡ roundRect tick r
   unfolding roundRect
   all-back h =
       let p = both-true a (b && (c && d)) h in

@@ -156,7 +156,7 @@ roundF (fin s m e) = round binary32 (s && ltb 0 (nearUp (m * up e) (down e))) (n
 unfoldable pub roundBy : Float → Float → Float
 roundBy per x = div binary32 (roundF (mul binary32 x per)) per
 
--- At a step of 1 / 2 ^ k point: a tick is the step at k = 5.
+-- At a step of 1 / 2 ^ k point.
 abbrev pub roundUi : ℕ → Float → Float
 roundUi k x = roundBy (fin false 1 (pos k)) x
 

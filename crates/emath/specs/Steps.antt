@@ -1,10 +1,14 @@
--- Lengths counted in steps of 1 / 2 ^ k point: the words of the laws in proofs/, for every k. A tick is the step at k = 5.
+-- Lengths counted in steps of 1 / 2 ^ k point: the words of the laws in proofs/, for every k.
 use mathlib.Core.Path.{_≡_}
 use Prim.Native.Nat.{ℕ, _+_, _*_, _^_, _≤_}
 use mathlib.Core.Bool.{Bool, true, false}
 use lib.IntN.{ℤ, pos, negsuc, negℤ, natAbs}
 use lib.Ieee.{Float, fin, binary32, up, down, round}
 use Rattle.emath.specs.Rectangles.{nearUp}
+
+-- a tick is 1 / 2 ^ tick point
+abbrev pub tick : ℕ
+tick = 5
 
 -- the f32 of 2 ^ j
 abbrev pub two : ℕ → Float
@@ -28,7 +32,7 @@ abbrev pub roundZ : ℕ → ℤ → ℤ
 roundZ i z = signed (sgn z) (nearUp (natAbs z) (2 ^ i))
 
 -- y is x to the nearest step, where x is ±m * 2 ^ e with the sign s: a whole number of steps, n with x's sign, at most half a step from x.
--- The bound |n / 2 ^ k - x| ≤ 1 / 2 ^ (k + 1) stands over whole numbers, times 2 * 2 ^ k and x's denominator: at k = 5 it is 1/64 point.
+-- The bound |n / 2 ^ k - x| ≤ 1 / 2 ^ (k + 1) stands over whole numbers, times 2 * 2 ^ k and x's denominator: for a tick it is 1/64 point.
 pub record HalfStep (k : ℕ) (s : Bool) (m : ℕ) (e : ℤ) (y : Float) : Type 0 where
   pub steps : ℕ
   pub is : y ≡ val k (signed s steps)

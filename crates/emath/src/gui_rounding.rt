@@ -4,6 +4,7 @@ ghost use mathlib.Core.Bool.{true, false};
 ghost use lib.Dec.{T};
 ghost use lib.IntN.{pos};
 ghost use lib.Ieee.{binary32, lt, fin, add, sub};
+ghost use Rattle.emath.specs.Steps.{tick};
 ghost use Rattle.emath.specs.Shifting.{shift, backInTicks, backRect};
 ghost use Rattle.emath.specs.Rectangles.{roundF, roundBy, roundUi, roundRect};
 use crate::Rect;
@@ -69,13 +70,13 @@ pub fn round_by(per: f32, x: f32) -> f32
 }
 
 pub fn round_ui(x: f32) -> f32
-    ensures { λ r. ⌜ r ≡ roundUi 5 x ⌝ }
+    ensures { λ r. ⌜ r ≡ roundUi tick x ⌝ }
 {
     round_by(TICKS_PER_POINT, x)
 }
 
 fn is_in_ticks(x: f32) -> bool
-    ensures { λ b. ⌜ (b ≡ true → backInTicks x ≡ roundUi 5 x) ⌝ }
+    ensures { λ b. ⌜ (b ≡ true → backInTicks x ≡ roundUi tick x) ⌝ }
 {
     is_whole(x * TICKS_PER_POINT)
 }
@@ -88,7 +89,7 @@ fn back_in_ticks(x: f32) -> f32
 
 impl Rect {
     pub fn round_ui(self) -> Rect
-        ensures { λ r. ⌜ r ≡ roundRect 5 self ⌝ }
+        ensures { λ r. ⌜ r ≡ roundRect tick self ⌝ }
     {
         Rect {
             left: round_ui(self.left),
@@ -99,7 +100,7 @@ impl Rect {
     }
 
     fn is_in_ticks(self) -> bool
-        ensures { λ b. ⌜ (b ≡ true → backRect self ≡ roundRect 5 self) ⌝ }
+        ensures { λ b. ⌜ (b ≡ true → backRect self ≡ roundRect tick self) ⌝ }
     {
         is_in_ticks(self.left)
             & (is_in_ticks(self.top) & (is_in_ticks(self.right) & is_in_ticks(self.bottom)))
@@ -107,7 +108,7 @@ impl Rect {
 
     // The same, small enough to stand where it is called: quick where all edges are whole ticks.
     pub fn round_ui_quickly(self) -> Rect
-        ensures { λ r. ⌜ r ≡ roundRect 5 self ⌝ }
+        ensures { λ r. ⌜ r ≡ roundRect tick self ⌝ }
     {
         if self.is_in_ticks() {
             return Rect {

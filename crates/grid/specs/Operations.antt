@@ -1,5 +1,5 @@
 -- The public calls of grid.rs: the least number that applies to the arguments, or else to the answer, or else what the rule gives.
--- "Callers' states count as arguments." Every call rounds to ticks: k = 5.
+-- "Callers' states count as arguments." Where a call rounds, the step is 1 / 2 ^ k point.
 use Prim.Native.Nat.{ℕ}
 use mathlib.Core.Bool.{Bool, _&&_}
 use mathlib.Core.List.{[], _∷_}
@@ -63,11 +63,11 @@ checkedPrevRowHeight g row = lengthAnswer (gridFault g) (prevRowHeight g row)
 unfoldable pub checkedAvailableRect : GridLayout → Direction → Region → RectAnswer
 checkedAvailableRect g d r = placed (least (gridFault g ∷ regionFault d r ∷ directionFault d ∷ [])) (availableRect g r)
 
-unfoldable pub checkedNextCell : GridLayout → Direction → Rect → Vec2 → RectAnswer
-checkedNextCell g d c s = framed (least (gridFault g ∷ cursorFault d c ∷ sizeFault s ∷ directionFault d ∷ [])) (nextCell 5 g c s)
+unfoldable pub checkedNextCell : ℕ → GridLayout → Direction → Rect → Vec2 → RectAnswer
+checkedNextCell k g d c s = framed (least (gridFault g ∷ cursorFault d c ∷ sizeFault s ∷ directionFault d ∷ [])) (nextCell k g c s)
 
-unfoldable pub checkedAlignSizeWithinRect : GridLayout → Vec2 → Rect → RectAnswer
-checkedAlignSizeWithinRect g s f = placed (least (gridFault g ∷ sizeFault s ∷ rectFault f ∷ [])) (alignSizeWithinRect 5 s f)
+unfoldable pub checkedAlignSizeWithinRect : ℕ → GridLayout → Vec2 → Rect → RectAnswer
+checkedAlignSizeWithinRect k g s f = placed (least (gridFault g ∷ sizeFault s ∷ rectFault f ∷ [])) (alignSizeWithinRect k s f)
 
 -- 8: "an advance (so a W) at column 32 or row 128"
 unfoldable pub checkedAdvance : GridLayout → Direction → Rect → Rect → Rect → MovedAnswer

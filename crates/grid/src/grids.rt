@@ -25,6 +25,7 @@ use layout::Region;
 ghost use mathlib.Core.Path.{_≡_};
 ghost use Prim.Native.Nat.{_+_};
 ghost use lib.Dec.{eqb};
+ghost use Rattle.emath.specs.Steps.{tick};
 ghost use Rattle.grid.specs.Grids.{knownMemory, newGrid, emptyGrid, prevColWidth, prevRowHeight, lastWidth, otherWidth, cellWidth, cellHeight, availableRect, nextCell, alignSizeWithinRect, advance, endRow, save};
 
 pub fn known_memory(known: bool, memory: Memory) -> Memory
@@ -176,7 +177,7 @@ pub fn available_rect(grid: GridLayout, region: Region) -> Rect
 }
 
 pub fn next_cell(grid: GridLayout, cursor: Rect, child_size: Vec2) -> Rect
-    ensures { λ r. ⌜ r ≡ nextCell 5 grid cursor «child_size» ⌝ }
+    ensures { λ r. ⌜ r ≡ nextCell tick grid cursor «child_size» ⌝ }
 {
     let widths = widths_of(grid.prev_state);
     let heights = heights_of(grid.prev_state);
@@ -191,7 +192,7 @@ pub fn next_cell(grid: GridLayout, cursor: Rect, child_size: Vec2) -> Rect
 }
 
 pub fn align_size_within_rect(size: Vec2, frame: Rect) -> Rect
-    ensures { λ r. ⌜ r ≡ alignSizeWithinRect 5 size frame ⌝ }
+    ensures { λ r. ⌜ r ≡ alignSizeWithinRect tick size frame ⌝ }
 {
     let a = Align2::LEFT_CENTER;
     a.align_size_within_rect(size, frame).round_ui_quickly()

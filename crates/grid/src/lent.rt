@@ -17,6 +17,7 @@ ghost use mathlib.Core.List.{List, []};
 ghost use Prim.Native.Nat.{_<_};
 ghost use lib.ListN.{length};
 ghost use lib.Ieee.{Float};
+ghost use Rattle.emath.specs.Steps.{tick};
 ghost use Rattle.emath.specs.declared.Rect.{Rect as Place};
 ghost use Rattle.grid.specs.declared.BareGrid.{BareGrid as Bare};
 ghost use Rattle.grid.specs.Grids.{nextWidth, nextCell, advance, endRow};
@@ -111,7 +112,7 @@ pub fn next_cell(
     cursor: Rect,
     child_size: Vec2,
 ) -> Rect
-    ensures { λ r. ⌜ ((ws hs : List Float) → r ≡ nextCell 5 (gridOf grid spot (now («prev_widths» .entry)) (now («prev_heights» .entry)) ws hs) cursor «child_size») ⌝ }
+    ensures { λ r. ⌜ ((ws hs : List Float) → r ≡ nextCell tick (gridOf grid spot (now («prev_widths» .entry)) (now («prev_heights» .entry)) ws hs) cursor «child_size») ⌝ }
 {
     let width = next_width(grid, spot, prev_widths);
     let height = entry(prev_heights, grid.prev_rows, spot.row, grid.min_cell_size.y);

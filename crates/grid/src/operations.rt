@@ -42,6 +42,7 @@ use layout::faults::framed_rect;
 use layout::faults::placed_rect;
 use layout::faults::region_fault;
 ghost use mathlib.Core.Path.{_≡_};
+ghost use Rattle.emath.specs.Steps.{tick};
 ghost use Rattle.emath.specs.Domain.{finite};
 ghost use Rattle.grid.specs.Operations.{checkedSetMinColWidth, checkedSetMinRowHeight, checkedColWidth, checkedRowHeight, checkedFullWidth, checkedNew, checkedPrevColWidth, checkedPrevRowHeight, checkedAvailableRect, checkedNextCell, checkedAlignSizeWithinRect, checkedAdvance, checkedEndRow, checkedSave};
 
@@ -173,7 +174,7 @@ impl GridLayout {
     }
 
     pub fn next_cell(self, main_dir: Direction, cursor: Rect, child_size: Vec2) -> RectAnswer
-        ensures { λ a. ⌜ a ≡ checkedNextCell self «main_dir» cursor «child_size» ⌝ }
+        ensures { λ a. ⌜ a ≡ checkedNextCell tick self «main_dir» cursor «child_size» ⌝ }
     {
         let frame = grids::next_cell(self, cursor, child_size);
         let sizes = lesser_number(size_fault(child_size), direction_fault(main_dir));
@@ -182,7 +183,7 @@ impl GridLayout {
     }
 
     pub fn align_size_within_rect(self, size: Vec2, frame: Rect) -> RectAnswer
-        ensures { λ a. ⌜ a ≡ checkedAlignSizeWithinRect self size frame ⌝ }
+        ensures { λ a. ⌜ a ≡ checkedAlignSizeWithinRect tick self size frame ⌝ }
     {
         let rect = grids::align_size_within_rect(size, frame);
         let rest = lesser_number(size_fault(size), rect_fault(frame));
@@ -190,7 +191,7 @@ impl GridLayout {
     }
 
     pub fn justify_and_align(self, frame: Rect, size: Vec2) -> RectAnswer
-        ensures { λ a. ⌜ a ≡ checkedAlignSizeWithinRect self size frame ⌝ }
+        ensures { λ a. ⌜ a ≡ checkedAlignSizeWithinRect tick self size frame ⌝ }
     {
         self.align_size_within_rect(size, frame)
     }

@@ -1,5 +1,5 @@
 -- The public calls of layout.rs: the least number that applies to the arguments, or else to the answer, or else what the rule gives.
--- "Callers' states count as arguments." Every call rounds to ticks: k = 5.
+-- "Callers' states count as arguments." Where a call rounds, the step is 1 / 2 ^ k point.
 use Prim.Native.Nat.{ℕ}
 use mathlib.Core.List.{[], _∷_}
 use lib.Ieee.{Float}
@@ -28,16 +28,16 @@ unfoldable pub moved : Direction → ℕ → Region → Region → RegionAnswer
 moved d before given new = regionAnswer (orElse before (outside (regionFault d new))) given new
 
 -- ---- Layout
-unfoldable pub checkedAlignSizeWithinRect : Layout → Vec2 → Rect → RectAnswer
-checkedAlignSizeWithinRect l size outer = placed (least (sizeFault size ∷ rectFault outer ∷ [])) (alignSizeWithinRect 5 l size outer)
+unfoldable pub checkedAlignSizeWithinRect : ℕ → Layout → Vec2 → Rect → RectAnswer
+checkedAlignSizeWithinRect k l size outer = placed (least (sizeFault size ∷ rectFault outer ∷ [])) (alignSizeWithinRect k l size outer)
 
 -- its answer is a cursor, whose open edge is infinite
 unfoldable pub checkedInitialCursor : Layout → Rect → RectAnswer
 checkedInitialCursor l m = rectAnswer (orElse (rectFault m) (outside (cursorFault (l .«main_dir») (initialCursor (l .«main_dir») m)))) (initialCursor (l .«main_dir») m)
 
 -- there is no given region: a refused one is all zero
-unfoldable pub checkedRegionFromMaxRect : Layout → Rect → RegionAnswer
-checkedRegionFromMaxRect l m = moved (l .«main_dir») (rectFault m) zeroRegion (regionFromMaxRect 5 l m)
+unfoldable pub checkedRegionFromMaxRect : ℕ → Layout → Rect → RegionAnswer
+checkedRegionFromMaxRect k l m = moved (l .«main_dir») (rectFault m) zeroRegion (regionFromMaxRect k l m)
 
 unfoldable pub checkedAvailableRectBeforeWrap : Layout → Region → RectAnswer
 checkedAvailableRectBeforeWrap l g = placed (regionFault (l .«main_dir») g) (availableRectBeforeWrap (l .«main_dir») g)
@@ -50,22 +50,22 @@ unfoldable pub checkedAvailableFromCursorMaxRect : Layout → Rect → Rect → 
 checkedAvailableFromCursorMaxRect l c m =
     placed (least (cursorFault (l .«main_dir») c ∷ rectFault m ∷ [])) (availableFromCursorMaxRect (l .«main_dir») c m)
 
-unfoldable pub checkedNextFrame : Layout → Region → Vec2 → Vec2 → RectAnswer
-checkedNextFrame l g s sp = framed (least (regionFault (l .«main_dir») g ∷ sizeFault s ∷ pairFault (sp .x) (sp .y) ∷ [])) (nextFrame 5 l g s sp)
+unfoldable pub checkedNextFrame : ℕ → Layout → Region → Vec2 → Vec2 → RectAnswer
+checkedNextFrame k l g s sp = framed (least (regionFault (l .«main_dir») g ∷ sizeFault s ∷ pairFault (sp .x) (sp .y) ∷ [])) (nextFrame k l g s sp)
 
-unfoldable pub checkedNextFrameIgnoreWrap : Layout → Region → Vec2 → RectAnswer
-checkedNextFrameIgnoreWrap l g s = framed (least (regionFault (l .«main_dir») g ∷ sizeFault s ∷ [])) (nextFrameIgnoreWrap 5 l g s)
+unfoldable pub checkedNextFrameIgnoreWrap : ℕ → Layout → Region → Vec2 → RectAnswer
+checkedNextFrameIgnoreWrap k l g s = framed (least (regionFault (l .«main_dir») g ∷ sizeFault s ∷ [])) (nextFrameIgnoreWrap k l g s)
 
-unfoldable pub checkedJustifyAndAlign : Layout → Rect → Vec2 → RectAnswer
-checkedJustifyAndAlign l f s = placed (least (rectFault f ∷ sizeFault s ∷ [])) (justifyAndAlign 5 l f s)
+unfoldable pub checkedJustifyAndAlign : ℕ → Layout → Rect → Vec2 → RectAnswer
+checkedJustifyAndAlign k l f s = placed (least (rectFault f ∷ sizeFault s ∷ [])) (justifyAndAlign k l f s)
 
-unfoldable pub checkedNextWidgetSpaceIgnoreWrapJustify : Layout → Region → Vec2 → RectAnswer
-checkedNextWidgetSpaceIgnoreWrapJustify l g s =
-    placed (least (regionFault (l .«main_dir») g ∷ sizeFault s ∷ [])) (nextWidgetSpaceIgnoreWrapJustify 5 l g s)
+unfoldable pub checkedNextWidgetSpaceIgnoreWrapJustify : ℕ → Layout → Region → Vec2 → RectAnswer
+checkedNextWidgetSpaceIgnoreWrapJustify k l g s =
+    placed (least (regionFault (l .«main_dir») g ∷ sizeFault s ∷ [])) (nextWidgetSpaceIgnoreWrapJustify k l g s)
 
-unfoldable pub checkedNextWidgetPosition : Layout → Region → PosAnswer
-checkedNextWidgetPosition l g =
-    posAnswer (orElse (regionFault (l .«main_dir») g) (outside (pairFault (nextWidgetPosition 5 l g .x) (nextWidgetPosition 5 l g .y)))) (nextWidgetPosition 5 l g)
+unfoldable pub checkedNextWidgetPosition : ℕ → Layout → Region → PosAnswer
+checkedNextWidgetPosition k l g =
+    posAnswer (orElse (regionFault (l .«main_dir») g) (outside (pairFault (nextWidgetPosition k l g .x) (nextWidgetPosition k l g .y)))) (nextWidgetPosition k l g)
 
 unfoldable pub checkedAdvanceCursor : Layout → Region → Float → RegionAnswer
 checkedAdvanceCursor l g a =

@@ -13,6 +13,7 @@ use emath::num::infinity;
 use emath::num::max;
 ghost use mathlib.Core.Path.{_≡_};
 ghost use mathlib.Core.Bool.{_&&_};
+ghost use Rattle.emath.specs.Steps.{tick};
 ghost use Rattle.layout.specs.Rules.{overflows, newRow, newColumn, newCursor, reaching, newRegion, nextFrame, fillsWidth, fillsHeight, frameWidth, frameHeight, frameAlign2, movedDown, frameRect, nextFrameIgnoreWrap};
 
 // The child is longer than what is left, and the cursor is past the starting edge.
@@ -123,7 +124,7 @@ fn is_wrapping(layout: Layout, available: Rect, region: Region, child_size: Vec2
 
 // What is left is worked out once, where nothing wraps.
 pub fn next_frame(layout: Layout, region: Region, child_size: Vec2, spacing: Vec2) -> Rect
-    ensures { λ r. ⌜ r ≡ nextFrame 5 layout region «child_size» spacing ⌝ }
+    ensures { λ r. ⌜ r ≡ nextFrame tick layout region «child_size» spacing ⌝ }
 {
     let d = layout.main_dir;
     let available = available_rect_before_wrap(d, region);
@@ -214,7 +215,7 @@ fn frame_rect(layout: Layout, cursor: Rect, available: Rect, child_size: Vec2) -
 }
 
 pub fn next_frame_ignore_wrap(layout: Layout, region: Region, child_size: Vec2) -> Rect
-    ensures { λ r. ⌜ r ≡ nextFrameIgnoreWrap 5 layout region «child_size» ⌝ }
+    ensures { λ r. ⌜ r ≡ nextFrameIgnoreWrap tick layout region «child_size» ⌝ }
 {
     let d = layout.main_dir;
     let available = available_rect_before_wrap(d, region);

@@ -32,6 +32,7 @@ use emath::faults::pair_fault;
 use emath::faults::rect_fault;
 use emath::faults::size_fault;
 ghost use mathlib.Core.Path.{_≡_};
+ghost use Rattle.emath.specs.Steps.{tick};
 ghost use Rattle.layout.specs.Operations.{checkedAlignSizeWithinRect, checkedInitialCursor, checkedRegionFromMaxRect, checkedAvailableRectBeforeWrap, checkedAvailableSize, checkedAvailableFromCursorMaxRect, checkedNextFrame, checkedNextFrameIgnoreWrap, checkedJustifyAndAlign, checkedNextWidgetSpaceIgnoreWrapJustify, checkedNextWidgetPosition, checkedAdvanceCursor, checkedAdvanceAfterRects, checkedEndRow, checkedSetRowHeight, checkedExpandToIncludeRect, checkedExpandToIncludeX, checkedExpandToIncludeY};
 
 impl Region {
@@ -62,7 +63,7 @@ impl Region {
 
 impl Layout {
     pub fn align_size_within_rect(self, size: Vec2, outer: Rect) -> RectAnswer
-        ensures { λ a. ⌜ a ≡ checkedAlignSizeWithinRect self size outer ⌝ }
+        ensures { λ a. ⌜ a ≡ checkedAlignSizeWithinRect tick self size outer ⌝ }
     {
         let rect = widgets::align_size_within_rect(self, size, outer);
         placed_rect(lesser_number(size_fault(size), rect_fault(outer)), rect)
@@ -78,7 +79,7 @@ impl Layout {
     }
 
     pub fn region_from_max_rect(self, max_rect: Rect) -> RegionAnswer
-        ensures { λ a. ⌜ a ≡ checkedRegionFromMaxRect self «max_rect» ⌝ }
+        ensures { λ a. ⌜ a ≡ checkedRegionFromMaxRect tick self «max_rect» ⌝ }
     {
         let d = self.main_dir;
         let new = widgets::region_from_max_rect(self, max_rect);
@@ -114,7 +115,7 @@ impl Layout {
     }
 
     pub fn next_frame(self, region: Region, child_size: Vec2, spacing: Vec2) -> RectAnswer
-        ensures { λ a. ⌜ a ≡ checkedNextFrame self region «child_size» spacing ⌝ }
+        ensures { λ a. ⌜ a ≡ checkedNextFrame tick self region «child_size» spacing ⌝ }
     {
         let d = self.main_dir;
         let frame = frames::next_frame(self, region, child_size, spacing);
@@ -123,7 +124,7 @@ impl Layout {
     }
 
     pub fn next_frame_ignore_wrap(self, region: Region, child_size: Vec2) -> RectAnswer
-        ensures { λ a. ⌜ a ≡ checkedNextFrameIgnoreWrap self region «child_size» ⌝ }
+        ensures { λ a. ⌜ a ≡ checkedNextFrameIgnoreWrap tick self region «child_size» ⌝ }
     {
         let d = self.main_dir;
         let frame = frames::next_frame_ignore_wrap(self, region, child_size);
@@ -134,7 +135,7 @@ impl Layout {
     }
 
     pub fn justify_and_align(self, frame: Rect, child_size: Vec2) -> RectAnswer
-        ensures { λ a. ⌜ a ≡ checkedJustifyAndAlign self frame «child_size» ⌝ }
+        ensures { λ a. ⌜ a ≡ checkedJustifyAndAlign tick self frame «child_size» ⌝ }
     {
         let widget = widgets::justify_and_align(self, frame, child_size);
         placed_rect(
@@ -144,7 +145,7 @@ impl Layout {
     }
 
     pub fn next_widget_space_ignore_wrap_justify(self, region: Region, size: Vec2) -> RectAnswer
-        ensures { λ a. ⌜ a ≡ checkedNextWidgetSpaceIgnoreWrapJustify self region size ⌝ }
+        ensures { λ a. ⌜ a ≡ checkedNextWidgetSpaceIgnoreWrapJustify tick self region size ⌝ }
     {
         let d = self.main_dir;
         let rect = widgets::next_widget_space_ignore_wrap_justify(self, region, size);
@@ -155,7 +156,7 @@ impl Layout {
     }
 
     pub fn next_widget_position(self, region: Region) -> PosAnswer
-        ensures { λ a. ⌜ a ≡ checkedNextWidgetPosition self region ⌝ }
+        ensures { λ a. ⌜ a ≡ checkedNextWidgetPosition tick self region ⌝ }
     {
         let d = self.main_dir;
         let pos = widgets::next_widget_position(self, region);

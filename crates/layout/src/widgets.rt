@@ -8,10 +8,11 @@ use emath::Rect;
 use emath::Vec2;
 use emath::num::at_least;
 ghost use mathlib.Core.Path.{_≡_};
+ghost use Rattle.emath.specs.Steps.{tick};
 ghost use Rattle.layout.specs.Rules.{alignSizeWithinRect, raised, justifyAndAlign, nextWidgetSpaceIgnoreWrapJustify, nextWidgetPosition, regionFromMaxRect};
 
 pub fn align_size_within_rect(layout: Layout, size: Vec2, outer: Rect) -> Rect
-    ensures { λ r. ⌜ r ≡ alignSizeWithinRect 5 layout size outer ⌝ }
+    ensures { λ r. ⌜ r ≡ alignSizeWithinRect tick layout size outer ⌝ }
 {
     layout
         .align2()
@@ -30,7 +31,7 @@ fn raised_to(justify: bool, length: f32, full: f32) -> f32
 }
 
 pub fn justify_and_align(layout: Layout, frame: Rect, child_size: Vec2) -> Rect
-    ensures { λ r. ⌜ r ≡ justifyAndAlign 5 layout frame «child_size» ⌝ }
+    ensures { λ r. ⌜ r ≡ justifyAndAlign tick layout frame «child_size» ⌝ }
 {
     let size = Vec2 {
         x: raised_to(layout.horizontal_justify(), child_size.x, frame.width()),
@@ -40,21 +41,21 @@ pub fn justify_and_align(layout: Layout, frame: Rect, child_size: Vec2) -> Rect
 }
 
 pub fn next_widget_space_ignore_wrap_justify(layout: Layout, region: Region, size: Vec2) -> Rect
-    ensures { λ r. ⌜ r ≡ nextWidgetSpaceIgnoreWrapJustify 5 layout region size ⌝ }
+    ensures { λ r. ⌜ r ≡ nextWidgetSpaceIgnoreWrapJustify tick layout region size ⌝ }
 {
     align_size_within_rect(layout, size, next_frame_ignore_wrap(layout, region, size))
 }
 
 // Where the next tiny widget would be centred.
 pub fn next_widget_position(layout: Layout, region: Region) -> Pos2
-    ensures { λ p. ⌜ p ≡ nextWidgetPosition 5 layout region ⌝ }
+    ensures { λ p. ⌜ p ≡ nextWidgetPosition tick layout region ⌝ }
 {
     next_widget_space_ignore_wrap_justify(layout, region, Vec2 { x: 0.0, y: 0.0 }).center()
 }
 
 // min_rect is not read before it is set.
 pub fn region_from_max_rect(layout: Layout, max_rect: Rect) -> Region
-    ensures { λ g. ⌜ g ≡ regionFromMaxRect 5 layout «max_rect» ⌝ }
+    ensures { λ g. ⌜ g ≡ regionFromMaxRect tick layout «max_rect» ⌝ }
 {
     let d = layout.main_dir;
     let region = Region {

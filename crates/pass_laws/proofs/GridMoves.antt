@@ -19,7 +19,7 @@ use Rattle.grid.specs.Grids.{advanced, rowEnded}
 use Rattle.grid.proofs.Cells.{cell-width}
 use Rattle.placer.specs.Rules.{nextSpace, justifyAndAlign, advanceCursor, movedPast, advanceAfterRects, expandToIncludeRect, setCursor, endRow, setRowHeight, setMaxWidth, setMaxHeight, setMinWidth, setMinHeight, grownAcross, grownDown, expandToIncludeX, expandToIncludeY}
 use Rattle.placer.specs.Refusals.{placerFault, advanceFault, endRowFault, changed}
-use Rattle.placer.specs.Operations.{checkedAdvanceCursor, checkedEndRow, checkedSetRowHeight}
+use Rattle.placer.specs.Operations.{checkedAdvanceCursor, checkedEndRow, checkedSetRowHeight, checkedSetMaxWidth, checkedSetMaxHeight, checkedSetMinWidth, checkedSetMinHeight}
 use Rattle.placer.proofs.Accepted.{changed-accepted}
 use Rattle.placer.specs.declared.Placer.{Placer}
 use Rattle.records.specs.declared.Step.{Step}
@@ -164,7 +164,7 @@ pub data Other : Step → Type 0 where
   minHeight : {h : Float} → Other (MinHeight h)
 
 pub left-alone : (k : ℕ) (sp : Vec2) (p : Placer) {st : Step} → Other st → stepped k sp p st .number ≡ 0 → LeftAlone p (stepped k sp p st .placer)
-unfolding stepped checkedAdvanceCursor checkedSetRowHeight
+unfolding stepped checkedAdvanceCursor checkedSetRowHeight checkedSetMaxWidth checkedSetMaxHeight checkedSetMinWidth checkedSetMinHeight
 left-alone k sp p (space {a = a}) h = by-call _ p (advanceCursor p a) (advance-alone k p a) h
 left-alone k sp p (rowHeight {h = v}) h = by-call _ p (setRowHeight p v) (row-height-alone k p v) h
 left-alone k sp p (maxWidth {w = w}) h = by-call _ p (setMaxWidth k p w) (max-width-alone k p w) h

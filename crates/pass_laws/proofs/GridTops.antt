@@ -16,7 +16,7 @@ use Rattle.grid.proofs.Advances.{Sound}
 use Rattle.grid.specs.declared.GridLayout.{GridLayout}
 use Rattle.placer.specs.Rules.{advanceCursor, setRowHeight, setMaxWidth, setMaxHeight, setMinWidth, setMinHeight}
 use Rattle.placer.specs.Refusals.{placerFault, changed}
-use Rattle.placer.specs.Operations.{checkedAdvanceCursor, checkedSetRowHeight, checkedEndRow}
+use Rattle.placer.specs.Operations.{checkedAdvanceCursor, checkedSetRowHeight, checkedEndRow, checkedSetMaxWidth, checkedSetMaxHeight, checkedSetMinWidth, checkedSetMinHeight}
 use Rattle.placer.specs.Steps.{WholeDown, WholeTops}
 use Rattle.placer.proofs.Accepted.{changed-accepted}
 use Rattle.placer.proofs.WholeGrids.{advance-after-rects-tops, end-row-tops, set-max-width-tops, set-max-height-tops}
@@ -92,7 +92,7 @@ module _ (k : ℕ) (l : k ≤ 6) (sp : Vec2) (p : Placer) (i : OnSteps k p) wher
   tops-by n q f h = let c = changed-accepted n p q h in subst (WholeTops k) (sym (c .2)) (f (c .1))
 
   other-tops : {st : Step} → Other st → stepped k sp p st .number ≡ 0 → WholeTops k (stepped k sp p st .placer)
-  unfolding stepped checkedAdvanceCursor checkedSetRowHeight least
+  unfolding stepped checkedAdvanceCursor checkedSetRowHeight checkedSetMaxWidth checkedSetMaxHeight checkedSetMinWidth checkedSetMinHeight least
   other-tops (space {a = a}) h = absurd (no-space (changed-accepted _ p (advanceCursor p a) h .0))
     where
       no-space : lesser (placerFault p) (lesser (lengthFault a) (when (p .«has_grid») 7)) ≡ 0 → ⊥

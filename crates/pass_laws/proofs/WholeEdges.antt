@@ -18,7 +18,7 @@ use Rattle.emath.specs.declared.Vec2.{Vec2}
 use Rattle.layout.specs.Steps.{WholeRect, WholeSize}
 use Rattle.placer.specs.Rules.{newPlacer, advanceAfterRects, movedPast, expandToIncludeRect, setCursor, endRow, advanceCursor, setRowHeight, setMaxWidth, setMaxHeight, setMinWidth, setMinHeight}
 use Rattle.placer.specs.Refusals.{placerFault, changed}
-use Rattle.placer.specs.Operations.{checkedAdvanceCursor, checkedSetRowHeight, checkedEndRow}
+use Rattle.placer.specs.Operations.{checkedAdvanceCursor, checkedSetRowHeight, checkedEndRow, checkedSetMaxWidth, checkedSetMaxHeight, checkedSetMinWidth, checkedSetMinHeight}
 use Rattle.placer.specs.Steps.{WholePlacer}
 use Rattle.placer.proofs.Accepted.{changed-accepted}
 use Rattle.placer.proofs.WholeCalls.{new-whole, advance-cursor-whole-steps, set-row-height-whole-steps, advance-after-rects-layout, end-row-layout}
@@ -133,19 +133,19 @@ module _ (k : ℕ) (l : k ≤ 6) (sp : Vec2) (S : WholeSize k sp) where
     height-plain v e n = by-call _ p (setRowHeight p v) (row-height-alone k p v) i (set-row-height-whole-steps k l p v (i .whole) e) n
 
     max-width-plain : (v : Float) → stepped k sp p (MaxWidth v) .number ≡ 0 → Plain (stepped k sp p (MaxWidth v) .placer)
-    unfolding stepped
+    unfolding stepped checkedSetMaxWidth
     max-width-plain v n = by-call _ p (setMaxWidth k p v) (max-width-alone k p v) i (set-max-width-whole k l p v (i .whole)) n
 
     max-height-plain : (v : Float) → stepped k sp p (MaxHeight v) .number ≡ 0 → Plain (stepped k sp p (MaxHeight v) .placer)
-    unfolding stepped
+    unfolding stepped checkedSetMaxHeight
     max-height-plain v n = by-call _ p (setMaxHeight k p v) (max-height-alone k p v) i (set-max-height-whole k l p v (i .whole)) n
 
     min-width-plain : (v : Float) → stepped k sp p (MinWidth v) .number ≡ 0 → Plain (stepped k sp p (MinWidth v) .placer)
-    unfolding stepped
+    unfolding stepped checkedSetMinWidth
     min-width-plain v n = by-call _ p (setMinWidth k p v) (min-width-alone k p v) i (set-min-width-whole k l p v (i .whole)) n
 
     min-height-plain : (v : Float) → stepped k sp p (MinHeight v) .number ≡ 0 → Plain (stepped k sp p (MinHeight v) .placer)
-    unfolding stepped
+    unfolding stepped checkedSetMinHeight
     min-height-plain v n = by-call _ p (setMinHeight k p v) (min-height-alone k p v) i (set-min-height-whole k l p v (i .whole)) n
 
   abbrev PlainLaw : List Step → Type 0

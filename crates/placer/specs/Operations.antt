@@ -1,5 +1,6 @@
 -- The public calls of placer.rs: the least number that applies to the arguments, or else to the answer, or else what the rule gives.
--- "Callers' states count as arguments." Every call rounds to ticks: k = 5.
+-- "Callers' states count as arguments." Where a call rounds, the step is 1 / 2 ^ k point.
+use Prim.Native.Nat.{ℕ}
 use mathlib.Core.List.{[], _∷_}
 use lib.Ieee.{Float}
 use Rattle.emath.specs.Refusals.{when, least, orElse, lengthFault, extentFault, pairFault, sizeFault, rectFault, outside}
@@ -19,8 +20,8 @@ use Rattle.grid.specs.declared.SavedAnswer.{SavedAnswer}
 use Rattle.placer.specs.declared.Placer.{Placer}
 use Rattle.placer.specs.declared.PlacerAnswer.{PlacerAnswer}
 
-unfoldable pub checkedNew : Rect → Layout → PlacerAnswer
-checkedNew m l = changed (rectFault m) (zeroPlacer l) (newPlacer 5 m l)
+unfoldable pub checkedNew : ℕ → Rect → Layout → PlacerAnswer
+checkedNew k m l = changed (rectFault m) (zeroPlacer l) (newPlacer k m l)
 
 unfoldable pub checkedSetGrid : Placer → GridLayout → PlacerAnswer
 checkedSetGrid p g = changed (least (placerFault p ∷ gridFault g ∷ directionFault (p .layout .«main_dir») ∷ [])) p (setGrid p g)
@@ -35,24 +36,24 @@ checkedForceSetMinRect p m = changed (least (placerFault p ∷ rectFault m ∷ [
 unfoldable pub checkedSetCursor : Placer → Rect → PlacerAnswer
 checkedSetCursor p c = changed (least (placerFault p ∷ cursorFault (p .layout .«main_dir») c ∷ [])) p (setCursor p c)
 
-unfoldable pub checkedAlignSizeWithinRect : Placer → Vec2 → Rect → RectAnswer
-checkedAlignSizeWithinRect p s o = placed (least (placerFault p ∷ sizeFault s ∷ rectFault o ∷ [])) (alignSizeWithinRect 5 p s o)
+unfoldable pub checkedAlignSizeWithinRect : ℕ → Placer → Vec2 → Rect → RectAnswer
+checkedAlignSizeWithinRect k p s o = placed (least (placerFault p ∷ sizeFault s ∷ rectFault o ∷ [])) (alignSizeWithinRect k p s o)
 
-unfoldable pub checkedAvailableRectBeforeWrap : Placer → RectAnswer
-checkedAvailableRectBeforeWrap p = placed (placerFault p) (availableRectBeforeWrap 5 p)
+unfoldable pub checkedAvailableRectBeforeWrap : ℕ → Placer → RectAnswer
+checkedAvailableRectBeforeWrap k p = placed (placerFault p) (availableRectBeforeWrap k p)
 
 unfoldable pub checkedAvailableSize : Placer → SizeAnswer
 checkedAvailableSize p = sizeAnswer (orElse (placerFault p) (outside (pairFault (availableSize p .x) (availableSize p .y)))) (availableSize p)
 
-unfoldable pub checkedNextSpace : Placer → Vec2 → Vec2 → RectAnswer
-checkedNextSpace p s sp = framed (least (placerFault p ∷ sizeFault s ∷ pairFault (sp .x) (sp .y) ∷ [])) (nextSpace 5 p s sp)
+unfoldable pub checkedNextSpace : ℕ → Placer → Vec2 → Vec2 → RectAnswer
+checkedNextSpace k p s sp = framed (least (placerFault p ∷ sizeFault s ∷ pairFault (sp .x) (sp .y) ∷ [])) (nextSpace k p s sp)
 
-unfoldable pub checkedNextWidgetPosition : Placer → PosAnswer
-checkedNextWidgetPosition p =
-    posAnswer (orElse (placerFault p) (outside (pairFault (nextWidgetPosition 5 p .x) (nextWidgetPosition 5 p .y)))) (nextWidgetPosition 5 p)
+unfoldable pub checkedNextWidgetPosition : ℕ → Placer → PosAnswer
+checkedNextWidgetPosition k p =
+    posAnswer (orElse (placerFault p) (outside (pairFault (nextWidgetPosition k p .x) (nextWidgetPosition k p .y)))) (nextWidgetPosition k p)
 
-unfoldable pub checkedJustifyAndAlign : Placer → Rect → Vec2 → RectAnswer
-checkedJustifyAndAlign p r s = placed (least (placerFault p ∷ rectFault r ∷ sizeFault s ∷ [])) (justifyAndAlign 5 p r s)
+unfoldable pub checkedJustifyAndAlign : ℕ → Placer → Rect → Vec2 → RectAnswer
+checkedJustifyAndAlign k p r s = placed (least (placerFault p ∷ rectFault r ∷ sizeFault s ∷ [])) (justifyAndAlign k p r s)
 
 -- 7: "S in a grid", also by 0
 unfoldable pub checkedAdvanceCursor : Placer → Float → PlacerAnswer
@@ -77,18 +78,18 @@ checkedExpandToIncludeX p x = changed (least (placerFault p ∷ lengthFault x �
 unfoldable pub checkedExpandToIncludeY : Placer → Float → PlacerAnswer
 checkedExpandToIncludeY p y = changed (least (placerFault p ∷ lengthFault y ∷ [])) p (expandToIncludeY p y)
 
-unfoldable pub checkedNextWidgetSpaceIgnoreWrapJustify : Placer → Vec2 → RectAnswer
-checkedNextWidgetSpaceIgnoreWrapJustify p s = placed (least (placerFault p ∷ sizeFault s ∷ [])) (nextWidgetSpaceIgnoreWrapJustify 5 p s)
+unfoldable pub checkedNextWidgetSpaceIgnoreWrapJustify : ℕ → Placer → Vec2 → RectAnswer
+checkedNextWidgetSpaceIgnoreWrapJustify k p s = placed (least (placerFault p ∷ sizeFault s ∷ [])) (nextWidgetSpaceIgnoreWrapJustify k p s)
 
 -- 6: "negative … maximum width or height"
-unfoldable pub checkedSetMaxWidth : Placer → Float → PlacerAnswer
-checkedSetMaxWidth p w = changed (least (placerFault p ∷ extentFault w ∷ [])) p (setMaxWidth 5 p w)
+unfoldable pub checkedSetMaxWidth : ℕ → Placer → Float → PlacerAnswer
+checkedSetMaxWidth k p w = changed (least (placerFault p ∷ extentFault w ∷ [])) p (setMaxWidth k p w)
 
-unfoldable pub checkedSetMaxHeight : Placer → Float → PlacerAnswer
-checkedSetMaxHeight p h = changed (least (placerFault p ∷ extentFault h ∷ [])) p (setMaxHeight 5 p h)
+unfoldable pub checkedSetMaxHeight : ℕ → Placer → Float → PlacerAnswer
+checkedSetMaxHeight k p h = changed (least (placerFault p ∷ extentFault h ∷ [])) p (setMaxHeight k p h)
 
-unfoldable pub checkedSetMinWidth : Placer → Float → PlacerAnswer
-checkedSetMinWidth p w = changed (least (placerFault p ∷ lengthFault w ∷ [])) p (setMinWidth 5 p w)
+unfoldable pub checkedSetMinWidth : ℕ → Placer → Float → PlacerAnswer
+checkedSetMinWidth k p w = changed (least (placerFault p ∷ lengthFault w ∷ [])) p (setMinWidth k p w)
 
-unfoldable pub checkedSetMinHeight : Placer → Float → PlacerAnswer
-checkedSetMinHeight p h = changed (least (placerFault p ∷ lengthFault h ∷ [])) p (setMinHeight 5 p h)
+unfoldable pub checkedSetMinHeight : ℕ → Placer → Float → PlacerAnswer
+checkedSetMinHeight k p h = changed (least (placerFault p ∷ lengthFault h ∷ [])) p (setMinHeight k p h)

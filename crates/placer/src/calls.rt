@@ -21,6 +21,7 @@ ghost use mathlib.Core.Path.{_≡_};
 ghost use mathlib.Core.Bool.{true};
 ghost use mathlib.Core.List.{List, [], _∷_};
 ghost use lib.Ieee.{Float};
+ghost use Rattle.emath.specs.Steps.{tick};
 ghost use Rattle.emath.specs.Refusals.{least};
 ghost use Rattle.emath.specs.declared.Vec2.{Vec2 as Spacing};
 ghost use Rattle.placer.specs.declared.BarePlacer.{BarePlacer as Bare};
@@ -80,7 +81,7 @@ pub fn set_row_height(placer: BarePlacer, spot: Spot, height: f32) -> SpotAnswer
 }
 
 pub fn set_max_width(placer: BarePlacer, spot: Spot, width: f32) -> SpotAnswer
-    ensures { λ a. ⌜ ((pw ph ws hs : List Float) → placerFault (placerOf placer spot pw ph ws hs) ≡ 0 → answerOf placer spot a pw ph ws hs ≡ checkedSetMaxWidth (placerOf placer spot pw ph ws hs) width) ⌝ }
+    ensures { λ a. ⌜ ((pw ph ws hs : List Float) → placerFault (placerOf placer spot pw ph ws hs) ≡ 0 → answerOf placer spot a pw ph ws hs ≡ checkedSetMaxWidth tick (placerOf placer spot pw ph ws hs) width) ⌝ }
 {
     settled(
         placer,
@@ -91,7 +92,7 @@ pub fn set_max_width(placer: BarePlacer, spot: Spot, width: f32) -> SpotAnswer
 }
 
 pub fn set_max_height(placer: BarePlacer, spot: Spot, height: f32) -> SpotAnswer
-    ensures { λ a. ⌜ ((pw ph ws hs : List Float) → placerFault (placerOf placer spot pw ph ws hs) ≡ 0 → answerOf placer spot a pw ph ws hs ≡ checkedSetMaxHeight (placerOf placer spot pw ph ws hs) height) ⌝ }
+    ensures { λ a. ⌜ ((pw ph ws hs : List Float) → placerFault (placerOf placer spot pw ph ws hs) ≡ 0 → answerOf placer spot a pw ph ws hs ≡ checkedSetMaxHeight tick (placerOf placer spot pw ph ws hs) height) ⌝ }
 {
     settled(
         placer,
@@ -102,7 +103,7 @@ pub fn set_max_height(placer: BarePlacer, spot: Spot, height: f32) -> SpotAnswer
 }
 
 pub fn set_min_width(placer: BarePlacer, spot: Spot, width: f32) -> SpotAnswer
-    ensures { λ a. ⌜ ((pw ph ws hs : List Float) → placerFault (placerOf placer spot pw ph ws hs) ≡ 0 → answerOf placer spot a pw ph ws hs ≡ checkedSetMinWidth (placerOf placer spot pw ph ws hs) width) ⌝ }
+    ensures { λ a. ⌜ ((pw ph ws hs : List Float) → placerFault (placerOf placer spot pw ph ws hs) ≡ 0 → answerOf placer spot a pw ph ws hs ≡ checkedSetMinWidth tick (placerOf placer spot pw ph ws hs) width) ⌝ }
 {
     settled(
         placer,
@@ -113,7 +114,7 @@ pub fn set_min_width(placer: BarePlacer, spot: Spot, width: f32) -> SpotAnswer
 }
 
 pub fn set_min_height(placer: BarePlacer, spot: Spot, height: f32) -> SpotAnswer
-    ensures { λ a. ⌜ ((pw ph ws hs : List Float) → placerFault (placerOf placer spot pw ph ws hs) ≡ 0 → answerOf placer spot a pw ph ws hs ≡ checkedSetMinHeight (placerOf placer spot pw ph ws hs) height) ⌝ }
+    ensures { λ a. ⌜ ((pw ph ws hs : List Float) → placerFault (placerOf placer spot pw ph ws hs) ≡ 0 → answerOf placer spot a pw ph ws hs ≡ checkedSetMinHeight tick (placerOf placer spot pw ph ws hs) height) ⌝ }
 {
     settled(
         placer,

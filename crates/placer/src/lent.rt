@@ -20,6 +20,7 @@ ghost use mathlib.Core.Path.{_≡_};
 ghost use mathlib.Core.List.{List};
 ghost use lib.ListN.{length};
 ghost use lib.Ieee.{Float};
+ghost use Rattle.emath.specs.Steps.{tick};
 ghost use Rattle.emath.specs.declared.Rect.{Rect as Frame};
 ghost use Rattle.emath.specs.declared.Vec2.{Vec2 as Spacing};
 ghost use Rattle.placer.specs.Rules.{nextSpace, justifyAndAlign, movedPast, advanceAfterRects};
@@ -74,7 +75,7 @@ pub fn next_space(
     child_size: Vec2,
     item_spacing: Vec2,
 ) -> Rect
-    ensures { λ r. ⌜ ((ws hs : List Float) → r ≡ nextSpace 5 (placerOf placer spot (now («prev_widths» .entry)) (now («prev_heights» .entry)) ws hs) «child_size» «item_spacing») ⌝ }
+    ensures { λ r. ⌜ ((ws hs : List Float) → r ≡ nextSpace tick (placerOf placer spot (now («prev_widths» .entry)) (now («prev_heights» .entry)) ws hs) «child_size» «item_spacing») ⌝ }
 {
     let g = spot.region;
     if placer.has_grid {
@@ -91,7 +92,7 @@ pub fn next_space(
 }
 
 pub fn justify_and_align(placer: BarePlacer, spot: Spot, rect: Rect, child_size: Vec2) -> Rect
-    ensures { λ r. ⌜ ((pw ph ws hs : List Float) → r ≡ justifyAndAlign 5 (placerOf placer spot pw ph ws hs) rect «child_size») ⌝ }
+    ensures { λ r. ⌜ ((pw ph ws hs : List Float) → r ≡ justifyAndAlign tick (placerOf placer spot pw ph ws hs) rect «child_size») ⌝ }
 {
     if placer.has_grid {
         return grids::align_size_within_rect(child_size, rect);

@@ -10,6 +10,7 @@ use layout::regions::expand_to_include_y;
 use layout::widgets::next_widget_space_ignore_wrap_justify;
 ghost use mathlib.Core.Path.{_≡_};
 ghost use mathlib.Core.Bool.{Bool};
+ghost use Rattle.emath.specs.Steps.{tick};
 ghost use Rattle.layout.specs.Rules.{expandToIncludeX, expandToIncludeY};
 ghost use Rattle.grid.specs.declared.GridLayout.{GridLayout};
 ghost use Rattle.placer.specs.Rules.{limitedAcross, limitedDown, setMaxWidth, setMaxHeight, setMinWidth, setMinHeight};
@@ -49,7 +50,7 @@ fn limited_down(region: Region, rect: Rect) -> Region
 }
 
 pub fn max_width(layout: Layout, region: Region, width: f32) -> Region
-    ensures { λ g. ⌜ ((b : Bool) (m : GridLayout) → g ≡ setMaxWidth 5 (placerWith b m layout region) width .region) ⌝ }
+    ensures { λ g. ⌜ ((b : Bool) (m : GridLayout) → g ≡ setMaxWidth tick (placerWith b m layout region) width .region) ⌝ }
 {
     limited_across(
         region,
@@ -58,7 +59,7 @@ pub fn max_width(layout: Layout, region: Region, width: f32) -> Region
 }
 
 pub fn max_height(layout: Layout, region: Region, height: f32) -> Region
-    ensures { λ g. ⌜ ((b : Bool) (m : GridLayout) → g ≡ setMaxHeight 5 (placerWith b m layout region) height .region) ⌝ }
+    ensures { λ g. ⌜ ((b : Bool) (m : GridLayout) → g ≡ setMaxHeight tick (placerWith b m layout region) height .region) ⌝ }
 {
     limited_down(
         region,
@@ -67,13 +68,13 @@ pub fn max_height(layout: Layout, region: Region, height: f32) -> Region
 }
 
 pub fn set_max_width(placer: Placer, width: f32) -> Placer
-    ensures { λ p. ⌜ p ≡ setMaxWidth 5 placer width ⌝ }
+    ensures { λ p. ⌜ p ≡ setMaxWidth tick placer width ⌝ }
 {
     with_region(placer, max_width(placer.layout, placer.region, width))
 }
 
 pub fn set_max_height(placer: Placer, height: f32) -> Placer
-    ensures { λ p. ⌜ p ≡ setMaxHeight 5 placer height ⌝ }
+    ensures { λ p. ⌜ p ≡ setMaxHeight tick placer height ⌝ }
 {
     with_region(placer, max_height(placer.layout, placer.region, height))
 }
@@ -92,7 +93,7 @@ fn grown_down(region: Region, rect: Rect) -> Region
 
 // 0 or less changes nothing.
 pub fn min_width(layout: Layout, region: Region, width: f32) -> Region
-    ensures { λ g. ⌜ ((b : Bool) (m : GridLayout) → g ≡ setMinWidth 5 (placerWith b m layout region) width .region) ⌝ }
+    ensures { λ g. ⌜ ((b : Bool) (m : GridLayout) → g ≡ setMinWidth tick (placerWith b m layout region) width .region) ⌝ }
 {
     if width <= 0.0 {
         return region;
@@ -104,7 +105,7 @@ pub fn min_width(layout: Layout, region: Region, width: f32) -> Region
 }
 
 pub fn min_height(layout: Layout, region: Region, height: f32) -> Region
-    ensures { λ g. ⌜ ((b : Bool) (m : GridLayout) → g ≡ setMinHeight 5 (placerWith b m layout region) height .region) ⌝ }
+    ensures { λ g. ⌜ ((b : Bool) (m : GridLayout) → g ≡ setMinHeight tick (placerWith b m layout region) height .region) ⌝ }
 {
     if height <= 0.0 {
         return region;
@@ -116,13 +117,13 @@ pub fn min_height(layout: Layout, region: Region, height: f32) -> Region
 }
 
 pub fn set_min_width(placer: Placer, width: f32) -> Placer
-    ensures { λ p. ⌜ p ≡ setMinWidth 5 placer width ⌝ }
+    ensures { λ p. ⌜ p ≡ setMinWidth tick placer width ⌝ }
 {
     with_region(placer, min_width(placer.layout, placer.region, width))
 }
 
 pub fn set_min_height(placer: Placer, height: f32) -> Placer
-    ensures { λ p. ⌜ p ≡ setMinHeight 5 placer height ⌝ }
+    ensures { λ p. ⌜ p ≡ setMinHeight tick placer height ⌝ }
 {
     with_region(placer, min_height(placer.layout, placer.region, height))
 }

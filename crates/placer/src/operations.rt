@@ -34,11 +34,12 @@ use layout::faults::placed_rect;
 use layout::faults::pos_answer;
 use layout::faults::size_answer;
 ghost use mathlib.Core.Path.{_≡_};
+ghost use Rattle.emath.specs.Steps.{tick};
 ghost use Rattle.placer.specs.Operations.{checkedNew, checkedSetGrid, checkedSaveGrid, checkedForceSetMinRect, checkedSetCursor, checkedAlignSizeWithinRect, checkedAvailableRectBeforeWrap, checkedAvailableSize, checkedNextSpace, checkedNextWidgetPosition, checkedJustifyAndAlign, checkedAdvanceCursor, checkedAdvanceAfterRects, checkedEndRow, checkedSetRowHeight, checkedExpandToIncludeRect, checkedExpandToIncludeX, checkedExpandToIncludeY, checkedNextWidgetSpaceIgnoreWrapJustify, checkedSetMaxWidth, checkedSetMaxHeight, checkedSetMinWidth, checkedSetMinHeight};
 
 impl Placer {
     pub fn new(max_rect: Rect, layout: Layout) -> PlacerAnswer
-        ensures { λ a. ⌜ a ≡ checkedNew «max_rect» layout ⌝ }
+        ensures { λ a. ⌜ a ≡ checkedNew tick «max_rect» layout ⌝ }
     {
         let new = rules::new_placer(max_rect, layout);
         changed_placer(rect_fault(max_rect), zero_placer(layout), new)
@@ -86,7 +87,7 @@ impl Placer {
     }
 
     pub fn align_size_within_rect(self, size: Vec2, outer: Rect) -> RectAnswer
-        ensures { λ a. ⌜ a ≡ checkedAlignSizeWithinRect self size outer ⌝ }
+        ensures { λ a. ⌜ a ≡ checkedAlignSizeWithinRect tick self size outer ⌝ }
     {
         let rect = rules::align_size_within_rect(self, size, outer);
         let rest = lesser_number(size_fault(size), rect_fault(outer));
@@ -94,7 +95,7 @@ impl Placer {
     }
 
     pub fn available_rect_before_wrap(self) -> RectAnswer
-        ensures { λ a. ⌜ a ≡ checkedAvailableRectBeforeWrap self ⌝ }
+        ensures { λ a. ⌜ a ≡ checkedAvailableRectBeforeWrap tick self ⌝ }
     {
         placed_rect(placer_fault(self), rules::available_rect_before_wrap(self))
     }
@@ -108,7 +109,7 @@ impl Placer {
     }
 
     pub fn next_space(self, child_size: Vec2, item_spacing: Vec2) -> RectAnswer
-        ensures { λ a. ⌜ a ≡ checkedNextSpace self «child_size» «item_spacing» ⌝ }
+        ensures { λ a. ⌜ a ≡ checkedNextSpace tick self «child_size» «item_spacing» ⌝ }
     {
         let frame = rules::next_space(self, child_size, item_spacing);
         let rest = lesser_number(
@@ -119,7 +120,7 @@ impl Placer {
     }
 
     pub fn next_widget_position(self) -> PosAnswer
-        ensures { λ a. ⌜ a ≡ checkedNextWidgetPosition self ⌝ }
+        ensures { λ a. ⌜ a ≡ checkedNextWidgetPosition tick self ⌝ }
     {
         let pos = rules::next_widget_position(self);
         let after = outside_domain(pair_fault(pos.x, pos.y));
@@ -127,7 +128,7 @@ impl Placer {
     }
 
     pub fn justify_and_align(self, rect: Rect, child_size: Vec2) -> RectAnswer
-        ensures { λ a. ⌜ a ≡ checkedJustifyAndAlign self rect «child_size» ⌝ }
+        ensures { λ a. ⌜ a ≡ checkedJustifyAndAlign tick self rect «child_size» ⌝ }
     {
         let widget = rules::justify_and_align(self, rect, child_size);
         let rest = lesser_number(rect_fault(rect), size_fault(child_size));
@@ -218,14 +219,14 @@ impl Placer {
     }
 
     pub fn next_widget_space_ignore_wrap_justify(self, size: Vec2) -> RectAnswer
-        ensures { λ a. ⌜ a ≡ checkedNextWidgetSpaceIgnoreWrapJustify self size ⌝ }
+        ensures { λ a. ⌜ a ≡ checkedNextWidgetSpaceIgnoreWrapJustify tick self size ⌝ }
     {
         let rect = rules::next_widget_space_ignore_wrap_justify(self, size);
         placed_rect(lesser_number(placer_fault(self), size_fault(size)), rect)
     }
 
     pub fn set_max_width(self, width: f32) -> PlacerAnswer
-        ensures { λ a. ⌜ a ≡ checkedSetMaxWidth self width ⌝ }
+        ensures { λ a. ⌜ a ≡ checkedSetMaxWidth tick self width ⌝ }
     {
         let new = limits::set_max_width(self, width);
         changed_placer(
@@ -236,7 +237,7 @@ impl Placer {
     }
 
     pub fn set_max_height(self, height: f32) -> PlacerAnswer
-        ensures { λ a. ⌜ a ≡ checkedSetMaxHeight self height ⌝ }
+        ensures { λ a. ⌜ a ≡ checkedSetMaxHeight tick self height ⌝ }
     {
         let new = limits::set_max_height(self, height);
         changed_placer(
@@ -247,7 +248,7 @@ impl Placer {
     }
 
     pub fn set_min_width(self, width: f32) -> PlacerAnswer
-        ensures { λ a. ⌜ a ≡ checkedSetMinWidth self width ⌝ }
+        ensures { λ a. ⌜ a ≡ checkedSetMinWidth tick self width ⌝ }
     {
         let new = limits::set_min_width(self, width);
         changed_placer(
@@ -258,7 +259,7 @@ impl Placer {
     }
 
     pub fn set_min_height(self, height: f32) -> PlacerAnswer
-        ensures { λ a. ⌜ a ≡ checkedSetMinHeight self height ⌝ }
+        ensures { λ a. ⌜ a ≡ checkedSetMinHeight tick self height ⌝ }
     {
         let new = limits::set_min_height(self, height);
         changed_placer(

@@ -15,10 +15,11 @@ use layout::frames;
 use layout::regions;
 use layout::widgets;
 ghost use mathlib.Core.Path.{_≡_};
+ghost use Rattle.emath.specs.Steps.{tick};
 ghost use Rattle.placer.specs.Rules.{newPlacer, setGrid, saveGrid, withRegion, forceSetMinRect, setCursor, alignSizeWithinRect, available, availableRectBeforeWrap, availableSize, nextSpace, nextWidgetPosition, justifyAndAlign, advanceCursor, movedPast, advanceAfterRects, endRow, setRowHeight, expandToIncludeRect, expandToIncludeX, expandToIncludeY, nextWidgetSpaceIgnoreWrapJustify};
 
 pub fn new_placer(max_rect: Rect, layout: Layout) -> Placer
-    ensures { λ p. ⌜ p ≡ newPlacer 5 «max_rect» layout ⌝ }
+    ensures { λ p. ⌜ p ≡ newPlacer tick «max_rect» layout ⌝ }
 {
     let g = grids::empty_grid();
     let r = widgets::region_from_max_rect(layout, max_rect);
@@ -76,7 +77,7 @@ pub fn set_cursor(placer: Placer, cursor: Rect) -> Placer
 }
 
 pub fn align_size_within_rect(placer: Placer, size: Vec2, outer: Rect) -> Rect
-    ensures { λ r. ⌜ r ≡ alignSizeWithinRect 5 placer size outer ⌝ }
+    ensures { λ r. ⌜ r ≡ alignSizeWithinRect tick placer size outer ⌝ }
 {
     if placer.has_grid {
         return grids::align_size_within_rect(size, outer);
@@ -96,7 +97,7 @@ fn available_rect(placer: Placer) -> Rect
 }
 
 pub fn available_rect_before_wrap(placer: Placer) -> Rect
-    ensures { λ r. ⌜ r ≡ availableRectBeforeWrap 5 placer ⌝ }
+    ensures { λ r. ⌜ r ≡ availableRectBeforeWrap tick placer ⌝ }
 {
     available_rect(placer).round_ui()
 }
@@ -111,7 +112,7 @@ pub fn available_size(placer: Placer) -> Vec2
 }
 
 pub fn next_space(placer: Placer, child_size: Vec2, item_spacing: Vec2) -> Rect
-    ensures { λ r. ⌜ r ≡ nextSpace 5 placer «child_size» «item_spacing» ⌝ }
+    ensures { λ r. ⌜ r ≡ nextSpace tick placer «child_size» «item_spacing» ⌝ }
 {
     let g = placer.region;
     if placer.has_grid {
@@ -121,7 +122,7 @@ pub fn next_space(placer: Placer, child_size: Vec2, item_spacing: Vec2) -> Rect
 }
 
 pub fn next_widget_position(placer: Placer) -> Pos2
-    ensures { λ p. ⌜ p ≡ nextWidgetPosition 5 placer ⌝ }
+    ensures { λ p. ⌜ p ≡ nextWidgetPosition tick placer ⌝ }
 {
     let g = placer.region;
     if placer.has_grid {
@@ -131,7 +132,7 @@ pub fn next_widget_position(placer: Placer) -> Pos2
 }
 
 pub fn justify_and_align(placer: Placer, rect: Rect, child_size: Vec2) -> Rect
-    ensures { λ r. ⌜ r ≡ justifyAndAlign 5 placer rect «child_size» ⌝ }
+    ensures { λ r. ⌜ r ≡ justifyAndAlign tick placer rect «child_size» ⌝ }
 {
     if placer.has_grid {
         return grids::align_size_within_rect(child_size, rect);
@@ -225,7 +226,7 @@ pub fn expand_to_include_y(placer: Placer, y: f32) -> Placer
 }
 
 pub fn next_widget_space_ignore_wrap_justify(placer: Placer, size: Vec2) -> Rect
-    ensures { λ r. ⌜ r ≡ nextWidgetSpaceIgnoreWrapJustify 5 placer size ⌝ }
+    ensures { λ r. ⌜ r ≡ nextWidgetSpaceIgnoreWrapJustify tick placer size ⌝ }
 {
     widgets::next_widget_space_ignore_wrap_justify(placer.layout, placer.region, size)
 }

@@ -11,7 +11,7 @@ use lib.Ieee.{Float, binary32, ofBits, ofInt, inFloat, div, mul, inSigned, toSig
 use mathlib.Core.Bool.{true, false, true≢false}
 use mir.Syntax.{w32, w64}
 use mir.Val.{Fits, SFits}
-use Rattle.emath.specs.Steps.{two}
+use Rattle.emath.specs.Steps.{tick, two}
 use Rattle.emath.proofs.Whole.{within-natAbs}
 use Rattle.emath.proofs.Exact.{Small}
 use Rattle.emath.proofs.Casts.{float32, steps-to-points, points-to-steps}
@@ -24,8 +24,8 @@ use Rattle.records.specs.Parts.{points, inPoints, lengthIn, natural}
 small : (z : ℤ) → natAbs z ≤ 2097152 → Small z
 small z h = within-natAbs z (omega arith)
 
--- the code's constant is 2 ^ 5
-thirty-two : ofBits binary32 1107296256 ≡ two 5
+-- the code's constant is 2 ^ tick
+thirty-two : ofBits binary32 1107296256 ≡ two tick
 unfolding ofBits
 thirty-two = refl
 
@@ -34,12 +34,12 @@ casts z h = float32 z (small z h)
 
 pub divided : (z : ℤ) → natAbs z ≤ 2097152 → div binary32 (ofInt binary32 z) (ofBits binary32 1107296256) ≡ points z
 unfolding points
-divided z h = ap (λ (y : Float). div binary32 (ofInt binary32 z) y) thirty-two ∙ steps-to-points 5 (omega arith) z (small z h)
+divided z h = ap (λ (y : Float). div binary32 (ofInt binary32 z) y) thirty-two ∙ steps-to-points tick (omega arith) z (small z h)
 
 -- a length in points, times 32, is the number of ticks that the field holds
-pub back-in-ticks : (z : ℤ) → natAbs z ≤ 2097152 → T (inSigned binary32 31 (mul binary32 (points z) (two 5))) × (toSigned 31 (mul binary32 (points z) (two 5)) ≡ z)
+pub back-in-ticks : (z : ℤ) → natAbs z ≤ 2097152 → T (inSigned binary32 31 (mul binary32 (points z) (two tick))) × (toSigned 31 (mul binary32 (points z) (two tick)) ≡ z)
 unfolding points
-back-in-ticks z h = points-to-steps 5 (omega arith) z (small z h)
+back-in-ticks z h = points-to-steps tick (omega arith) z (small z h)
 
 -- ---- what length answers
 module _ (s : List ℕ) (i : ℕ) (f : Field) (e : f ≡ fieldAt 2097152 s (1 + 8 * i)) where

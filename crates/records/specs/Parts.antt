@@ -9,7 +9,7 @@ use lib.Dec.{eqb}
 use lib.Signed.{leZ}
 use lib.Ieee.{Float, inf}
 use Rattle.emath.specs.Rectangles.{zeroF}
-use Rattle.emath.specs.Steps.{val}
+use Rattle.emath.specs.Steps.{tick, val}
 use Rattle.text.specs.Fields.{fieldAt}
 use Rattle.text.specs.declared.Field.{Field}
 use Rattle.text.specs.declared.Field.the-variants as field
@@ -27,7 +27,7 @@ ends s n = eqb (getD s (1 + 8 * n) 0) 10
 -- ---- "Lengths are in ticks, magnitude at most 2,097,152."
 -- z ticks in points: z / 32
 unfoldable pub points : ℤ → Float
-points z = val 5 z
+points z = val tick z
 
 unfoldable pub inPoints : Field → Length
 inPoints field.Blank = Blank

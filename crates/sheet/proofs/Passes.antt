@@ -11,12 +11,12 @@ use Rattle.emath.proofs.Refusals.{or-none}
 use Rattle.layout.specs.Refusals.{zeroRect}
 use Rattle.grid.specs.Grids.{newGrid, save}
 use Rattle.grid.specs.Refusals.{gridAnswer}
-use Rattle.grid.specs.Operations.{checkedNew}
+use Rattle.grid.specs.Operations.{checkedNew as checkedNewGrid}
 use Rattle.grid.specs.declared.Memory.{Memory}
 use Rattle.grid.specs.declared.GridLayout.{GridLayout}
 use Rattle.placer.specs.Rules.{newPlacer, setGrid, saveGrid}
 use Rattle.placer.specs.Refusals.{placerFault, zeroPlacer}
-use Rattle.placer.specs.Operations.{checkedSetGrid}
+use Rattle.placer.specs.Operations.{checkedNew, checkedSetGrid}
 use Rattle.placer.proofs.Accepted.{changed-accepted}
 use Rattle.placer.specs.declared.Placer.{Placer}
 use Rattle.records.specs.declared.Heading.{Heading}
@@ -65,7 +65,7 @@ outcome-ends grid m r = go (eqb (r .number) 0) refl
 -- ---- H
 pub headed-is : (k : ℕ) (h : Heading) → headed k h .number ≡ 0
     → (rectFault (h .«max_rect») ≡ 0) × (placerFault (newPlacer k (h .«max_rect») (h .layout)) ≡ 0) × (headed k h .placer ≡ newPlacer k (h .«max_rect») (h .layout))
-unfolding headed
+unfolding headed checkedNew
 headed-is k h e = changed-accepted (rectFault (h .«max_rect»)) (zeroPlacer (h .layout)) (newPlacer k (h .«max_rect») (h .layout)) e
 
 -- ---- G
@@ -78,7 +78,7 @@ module _ (h : Heading) (o : GridOptions) (known : Bool) (m : Memory) (sizing : B
   newOne = newGrid (p .region) known m sizing (h .spacing) (o .«min_cell_size») (o .«max_cell_size») (o .«num_columns») (o .«start_row»)
 
   grid-of : gridOf h o known m sizing p .number ≡ 0 → gridOf h o known m sizing p .grid ≡ newOne
-  unfolding gridOf checkedNew
+  unfolding gridOf checkedNewGrid
   grid-of e = grid-accepted _ _ _ e
 
   pub gridded-is : gridded h o known m sizing p .number ≡ 0 → (gridded h o known m sizing p .placer ≡ setGrid p newOne) × (placerFault (setGrid p newOne) ≡ 0)

@@ -8,6 +8,7 @@ use lib.Dec.{eqb, ltb}
 use borrow.Author.Tests.{eqb-true}
 use lib.IntN.{ℤ}
 use lib.ListN.{length, drop, length-append}
+use Rattle.emath.specs.Steps.{tick}
 use Rattle.emath.specs.declared.Vec2.{Vec2}
 use Rattle.grid.specs.declared.Memory.{Memory}
 use Rattle.placer.specs.declared.Placer.{Placer}
@@ -60,11 +61,11 @@ pass-all k s known m sizing h =
 
 -- ---- what an accepted call has shown
 pub record Shown (text : List ℕ) (known : Bool) (m : Memory) (sizing : Bool) (p : Passed) (exit : List ℤ) : Type 0 where
-  pub number : pass 5 (sheetIn text) known m sizing .number ≡ 0
-  pub plate : p .plate ≡ pass 5 (sheetIn text) known m sizing .plate
-  pub memory : p .memory ≡ pass 5 (sheetIn text) known m sizing .memory
+  pub number : pass tick (sheetIn text) known m sizing .number ≡ 0
+  pub plate : p .plate ≡ pass tick (sheetIn text) known m sizing .plate
+  pub memory : p .memory ≡ pass tick (sheetIn text) known m sizing .memory
   pub others : List ℤ
-  pub slice : exit ≡ written (pass 5 (sheetIn text) known m sizing .cells) ++ others
+  pub slice : exit ≡ written (pass tick (sheetIn text) known m sizing .cells) ++ others
 
 pub no-number : (n at : ℕ) → laidOf n at ≡ Accepted → n ≡ 0
 unfolding laidOf
@@ -98,6 +99,6 @@ module _ (text : List ℕ) (known : Bool) (m : Memory) (sizing : Bool) (out : Li
         number = h;
         plate = ap (λ (x : Passed). x .plate) (c .answer) ∙ rw e;
         memory = ap (λ (x : Passed). x .memory) (c .answer) ∙ rw e;
-        others = drop (8 * length (pass 5 (sheetIn text) known m sizing .cells)) out;
+        others = drop (8 * length (pass tick (sheetIn text) known m sizing .cells)) out;
         slice = c .slice ∙ slice-is text known m sizing out r w e;
       }

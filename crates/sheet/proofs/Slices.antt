@@ -11,6 +11,7 @@ use borrow.Author.Tests.{ltb-true, ltb-false}
 use lib.ListN.{length, take, drop, length-append, drop-of-length-le}
 use lib.Seq.{sets-eq, length-sets, drop-nil}
 use lib.Ieee.{Float}
+use Rattle.emath.specs.Steps.{tick}
 use Rattle.emath.specs.declared.Vec2.{Vec2}
 use Rattle.grid.specs.declared.Memory.{Memory}
 use Rattle.placer.specs.declared.Placer.{Placer}
@@ -175,11 +176,11 @@ laid-length text known m sizing out = go (checked text (length out))
   where
     go : (c : Checked) → length (judged c text known m sizing out .slice) ≡ length out
     go (Refused n at) = refl
-    go (Accepted r w) = length-sets out 0 (written (pass 5 (sheetIn text) known m sizing .cells))
+    go (Accepted r w) = length-sets out 0 (written (pass tick (sheetIn text) known m sizing .cells))
 
 module _ (text : List ℕ) (known : Bool) (m : Memory) (sizing : Bool) (out : List ℤ) where
   abbrev pub cells : List Cell
-  cells = pass 5 (sheetIn text) known m sizing .cells
+  cells = pass tick (sheetIn text) known m sizing .cells
 
   -- 1 to 3 leave it as it was
   pub untouched : (n at : ℕ) → checked text (length out) ≡ Refused n at → laid text known m sizing out .slice ≡ out
@@ -190,7 +191,7 @@ module _ (text : List ℕ) (known : Bool) (m : Memory) (sizing : Bool) (out : Li
   pub slice-is : (r w : ℕ) → checked text (length out) ≡ Accepted r w → laid text known m sizing out .slice ≡ written cells ++ drop (8 * length cells) out
   unfolding laid judged
   slice-is r w e =
-      let f = pass-few 5 (sheetIn text) known m sizing in
+      let f = pass-few tick (sheetIn text) known m sizing in
       let g = sheet-few (records text) in
       let l = written-length cells in
       rw e (sets-eq (written cells) out 0 (omega (arith, l, f, g, room-there text (length out) r w e)) ∙ rest l)

@@ -7,6 +7,7 @@ use native.Mathlib.Omega.{arith}
 use lib.Dec.{eqb}
 use lib.ListN.{length}
 use borrow.Author.Tests.{eq-eqb, ne-eqb, eqb-true}
+use Rattle.emath.specs.Steps.{tick}
 use Rattle.emath.specs.Refusals.{least, orElse, sizeFault, pairFault}
 use Rattle.emath.proofs.Refusals.{lesser-none, or-none}
 use Rattle.emath.specs.declared.Rect.{Rect}
@@ -51,8 +52,8 @@ module _ (p : Placer) (sp s : Vec2) (none : placerFault p ≡ 0) (cols : length 
           → orElse (givenNumber p sp s) (answeredNumber f w (pastPart p (advanceAfterRects p f w sp .region) w)) ≡ widgetFault sp p s (record { frame = f; widget = w })
       whole h = h ∙ (unfold widgetFault givenNumber answeredNumber least in rw (none, zero-lesser))
 
-  module _ (f w : Rect) (ef : f ≡ nextSpace 5 p s sp) (ew : w ≡ justifyAndAlign 5 p f s) (n : ℕ) (en : n ≡ orElse (givenNumber p sp s) (answeredNumber f w (pastPart p (advanceAfterRects p f w sp .region) w))) where
-    fault : n ≡ widgetFault sp p s (cellOf 5 sp p s)
+  module _ (f w : Rect) (ef : f ≡ nextSpace tick p s sp) (ew : w ≡ justifyAndAlign tick p f s) (n : ℕ) (en : n ≡ orElse (givenNumber p sp s) (answeredNumber f w (pastPart p (advanceAfterRects p f w sp .region) w))) where
+    fault : n ≡ widgetFault sp p s (cellOf tick sp p s)
     fault = en ∙ number-is f w ∙ rw (ew, ef)
 
     pub placement-refused : (n ≡ 0 → ⊥) → record { number = n; placer = p; placed = 1; frame = f; widget = w } ≡ placement p sp s
@@ -64,8 +65,8 @@ module _ (p : Placer) (sp s : Vec2) (none : placerFault p ≡ 0) (cols : length 
     placement-accepted q h eq = rw (← fault, eq-eqb n 0 h, eq, ew, ef)
 
 -- ---- no fault after an accepted record
-widget-none : (p : Placer) (sp s : Vec2) → widgetStep sp p s (cellOf 5 sp p s) .number ≡ 0 → placerFault (widgetStep sp p s (cellOf 5 sp p s) .placer) ≡ 0
-widget-none p sp s h = let c = widget-placed sp p s (cellOf 5 sp p s) h in rw (c .placer) (c .after)
+widget-none : (p : Placer) (sp s : Vec2) → widgetStep sp p s (cellOf tick sp p s) .number ≡ 0 → placerFault (widgetStep sp p s (cellOf tick sp p s) .placer) ≡ 0
+widget-none p sp s h = let c = widget-placed sp p s (cellOf tick sp p s) h in rw (c .placer) (c .after)
 
 step-none : (p : Placer) (sp : Vec2) (st : Step) → stepMoved p sp st .number ≡ 0 → placerFault (stepMoved p sp st .placer) ≡ 0
 unfolding stepMoved placement checkedAdvanceCursor checkedEndRow checkedSetRowHeight checkedSetMaxWidth checkedSetMaxHeight checkedSetMinWidth checkedSetMinHeight
@@ -89,9 +90,9 @@ moved-none p sp record-of.Wrong h = absurd (let z : _≡_ {A = ℕ} 1 0 = h in o
 changed-none : (n : ℕ) (given new : Placer) (a : PlacerAnswer) → a ≡ changed n given new → a .number ≡ 0 → placerFault (a .placer) ≡ 0
 changed-none n given new a e h = let c = changed-accepted n given new (ap (λ (x : PlacerAnswer). x .number) (sym e) ∙ h) in rw (e, c .2) (c .1)
 
-pub headed-none : (r : Rect) (l : Layout) (a : PlacerAnswer) → a ≡ checkedNew r l → a .number ≡ 0 → placerFault (a .placer) ≡ 0
+pub headed-none : (k : ℕ) (r : Rect) (l : Layout) (a : PlacerAnswer) → a ≡ checkedNew k r l → a .number ≡ 0 → placerFault (a .placer) ≡ 0
 unfolding checkedNew
-headed-none r l a e h = changed-none _ _ _ a e h
+headed-none k r l a e h = changed-none _ _ _ a e h
 
 pub gridded-none : (h : Heading) (o : GridOptions) (known : Bool) (m : Memory) (sizing : Bool) (p : Placer) (a : PlacerAnswer) → a ≡ gridded h o known m sizing p → a .number ≡ 0 → placerFault (a .placer) ≡ 0
 unfolding gridded checkedSetGrid

@@ -10,27 +10,27 @@ use mathlib.Core.List.{List, [], _∷_}
 use mir.Syntax.{w32}
 use mir.Val.{toZ, ofZ}
 use lib.Ieee.{Float, binary32, ofBits, mul, inSigned, toSigned}
-use Rattle.emath.specs.Steps.{two, Edge}
+use Rattle.emath.specs.Steps.{tick, two, Edge}
 use Rattle.emath.proofs.Casts.{points-to-steps, back32}
 use Rattle.emath.proofs.Sums.{edge-small}
 use Rattle.sheet.specs.Ticks.{ticks}
 
-thirty-two : ofBits binary32 1107296256 ≡ two 5
+thirty-two : ofBits binary32 1107296256 ≡ two tick
 unfolding ofBits
 thirty-two = refl
 
-pub casts : (x : Float) → Edge 5 x → T (inSigned binary32 31 (mul binary32 x (ofBits binary32 1107296256)))
+pub casts : (x : Float) → Edge tick x → T (inSigned binary32 31 (mul binary32 x (ofBits binary32 1107296256)))
 casts x e =
-    let E = edge-small 5 (omega arith) e in
-    rw (thirty-two, e .is) (points-to-steps 5 (omega arith) (e .steps) (omega (arith, E)) .0)
+    let E = edge-small tick (omega arith) e in
+    rw (thirty-two, e .is) (points-to-steps tick (omega arith) (e .steps) (omega (arith, E)) .0)
 
-pub ticks-are : (x : Float) (e : Edge 5 x) → ticks 5 x ≡ e .steps
-ticks-are x e = ap (λ (y : Float). ticks 5 y) (e .is) ∙ points-to-steps 5 (omega arith) (e .steps) (omega (arith, edge-small 5 (omega arith) e)) .1
+pub ticks-are : (x : Float) (e : Edge tick x) → ticks tick x ≡ e .steps
+ticks-are x e = ap (λ (y : Float). ticks tick y) (e .is) ∙ points-to-steps tick (omega arith) (e .steps) (omega (arith, edge-small tick (omega arith) e)) .1
 
-pub counted-in-ticks : (x : Float) → Edge 5 x → toZ w32 (ofZ w32 (toSigned 31 (mul binary32 x (ofBits binary32 1107296256)))) ≡ ticks 5 x
+pub counted-in-ticks : (x : Float) → Edge tick x → toZ w32 (ofZ w32 (toSigned 31 (mul binary32 x (ofBits binary32 1107296256)))) ≡ ticks tick x
 counted-in-ticks x e =
     let v = ticks-are x e in
-    ap (λ (y : Float). toZ w32 (ofZ w32 (toSigned 31 (mul binary32 x y)))) thirty-two ∙ ap (λ (z : ℤ). toZ w32 (ofZ w32 z)) v ∙ back32 (omega arith) (edge-small 5 (omega arith) e) ∙ sym v
+    ap (λ (y : Float). toZ w32 (ofZ w32 (toSigned 31 (mul binary32 x y)))) thirty-two ∙ ap (λ (z : ℤ). toZ w32 (ofZ w32 z)) v ∙ back32 (omega arith) (edge-small tick (omega arith) e) ∙ sym v
 
 -- eight numbers one after the other
 pub eight-put : (out : List ℤ) (at : ℕ) (a b c d e f g h : ℤ)

@@ -9,6 +9,7 @@ use borrow.Author.Tests.{ltb-true, ltb-false, eqb-true}
 use lib.IntN.{ℤ}
 use lib.ListN.{length, drop, drop-of-length-le}
 use lib.Seq.{sets}
+use Rattle.emath.specs.Steps.{tick}
 use Rattle.emath.specs.declared.Vec2.{Vec2}
 use Rattle.grid.specs.declared.Memory.{Memory}
 use Rattle.placer.specs.declared.Placer.{Placer}
@@ -67,10 +68,10 @@ begun-answer a n grid m out later on h = go (a .number) (eqb (a .number) 0) refl
     go x false e = turned grid m out (a .placer) x n e
 
 gone-on : (a : PlacerAnswer) (n : ℕ) (s : List ℕ) (first most : ℕ) (sp : Vec2) (grid : Bool) (m : Memory) (out : List ℤ) → OnlySteps (recordsFrom most s)
-    → goneOn a n s first most sp grid m out ≡ answerOf out (outcomeOf grid m (followed n (called a) (runFrom 5 sp first (a .placer) (stepsOf (recordsFrom most s)))))
+    → goneOn a n s first most sp grid m out ≡ answerOf out (outcomeOf grid m (followed n (called a) (runFrom tick sp first (a .placer) (stepsOf (recordsFrom most s)))))
 unfolding goneOn
 gone-on a n s first most sp grid m out o =
-    let r = runFrom 5 sp first (a .placer) (stepsOf (recordsFrom most s)) in
+    let r = runFrom tick sp first (a .placer) (stepsOf (recordsFrom most s)) in
     let e = walked-is-run most sp first (a .placer) s out 0 o in
     begun-answer a n grid m out r _ (rw e (run-answer grid m out r))
 
@@ -107,9 +108,9 @@ module _ (text : List ℕ) (h : Heading) (p : Placer) (known : Bool) (m : Memory
   third = nextAt text (nextAt text 0)
 
   abbrev answered : List Record → Answer
-  answered rs = answerOf out (outcomeOf (afterHeading h rs .«has_grid») m (ranWith 5 (afterHeading h rs) known m sizing p))
+  answered rs = answerOf out (outcomeOf (afterHeading h rs .«has_grid») m (ranWith tick (afterHeading h rs) known m sizing p))
 
-  plain-on : OnlySteps (recordsFrom 511 (drop second text)) → plainOn text h p m out ≡ answerOf out (outcomeOf false m (runFrom 5 (h .spacing) 2 p (stepsOf (recordsFrom 511 (drop second text)))))
+  plain-on : OnlySteps (recordsFrom 511 (drop second text)) → plainOn text h p m out ≡ answerOf out (outcomeOf false m (runFrom tick (h .spacing) 2 p (stepsOf (recordsFrom 511 (drop second text)))))
   unfolding plainOn followed
   plain-on o = gone-on (record { number = 0; placer = p }) 1 (drop second text) 2 511 (h .spacing) false m out o
 
@@ -155,7 +156,7 @@ heading-of h (record-of.Step st ∷ rs) = refl
 heading-of h (record-of.Wrong ∷ rs) = refl
 
 pass-of : (s : Sheet) (h : Heading) (known : Bool) (m : Memory) (sizing : Bool) → s .heading ≡ h
-    → outcomeOf (s .«has_grid») m (followed 1 (called (headed 5 h)) (ranWith 5 s known m sizing (headed 5 h .placer))) ≡ pass 5 s known m sizing
+    → outcomeOf (s .«has_grid») m (followed 1 (called (headed tick h)) (ranWith tick s known m sizing (headed tick h .placer))) ≡ pass tick s known m sizing
 unfolding pass begun
 pass-of s h known m sizing e = rw e
 
@@ -163,24 +164,24 @@ module _ (text : List ℕ) (known : Bool) (m : Memory) (sizing : Bool) (out : Li
   abbrev later : List Record
   later = recordsFrom 511 (drop (nextAt text 0) text)
 
-  from-heading : (h : Heading) → misplaced 2 later ≡ 0 → fromHeading text h known m sizing out ≡ answerOf out (pass 5 (afterHeading h later) known m sizing)
+  from-heading : (h : Heading) → misplaced 2 later ≡ 0 → fromHeading text h known m sizing out ≡ answerOf out (pass tick (afterHeading h later) known m sizing)
   unfolding fromHeading
   from-heading h w =
-      begun-answer (headed 5 h) 1 (afterHeading h later .«has_grid») m out (ranWith 5 (afterHeading h later) known m sizing (headed 5 h .placer)) _
-      (after-heading text h (headed 5 h .placer) known m sizing out w)
+      begun-answer (headed tick h) 1 (afterHeading h later .«has_grid») m out (ranWith tick (afterHeading h later) known m sizing (headed tick h .placer)) _
+      (after-heading text h (headed tick h .placer) known m sizing out w)
       ∙ ap (λ (o : Outcome). answerOf out o) (pass-of (afterHeading h later) h known m sizing (heading-of h later))
 
-  from-record : (r : Record) → misplaced 1 (r ∷ later) ≡ 0 → fromRecord r text known m sizing out ≡ answerOf out (pass 5 (sheetOf (r ∷ later)) known m sizing)
+  from-record : (r : Record) → misplaced 1 (r ∷ later) ≡ 0 → fromRecord r text known m sizing out ≡ answerOf out (pass tick (sheetOf (r ∷ later)) known m sizing)
   unfolding fromRecord sheetOf placed
   from-record (record-of.Heading h) w = from-heading h (placed-well 1 (record-of.Heading h) later (omega arith) w .later)
   from-record (record-of.Grid g) w = no-such (placed-well 1 (record-of.Grid g) later (omega arith) w .here)
   from-record (record-of.Step st) w = no-such (placed-well 1 (record-of.Step st) later (omega arith) w .here)
   from-record record-of.Wrong w = no-such (placed-well 1 record-of.Wrong later (omega arith) w .here)
 
-  from-accepted : 0 < length text → misplaced 1 (records text) ≡ 0 → fromRecord (recordAt text 0) text known m sizing out ≡ answerOf out (pass 5 (sheetIn text) known m sizing)
+  from-accepted : 0 < length text → misplaced 1 (records text) ≡ 0 → fromRecord (recordAt text 0) text known m sizing out ≡ answerOf out (pass tick (sheetIn text) known m sizing)
   from-accepted l w =
       let s : records text ≡ recordAt text 0 ∷ later = records-step 512 text 0 (omega arith) l in
-      from-record (recordAt text 0) (ap (λ (rs : List Record). misplaced 1 rs) (sym s) ∙ w) ∙ sym (ap (λ (rs : List Record). answerOf out (pass 5 (sheetOf rs) known m sizing)) s)
+      from-record (recordAt text 0) (ap (λ (rs : List Record). misplaced 1 rs) (sym s) ∙ w) ∙ sym (ap (λ (rs : List Record). answerOf out (pass tick (sheetOf rs) known m sizing)) s)
 
 -- ---- what 1 to 3 leave
 pub record NoFault (text : List ℕ) : Type 0 where

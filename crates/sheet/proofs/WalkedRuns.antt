@@ -9,8 +9,8 @@ use lib.Dec.{eqb}
 use lib.IntN.{ℤ}
 use lib.ListN.{length, set}
 use lib.Seq.{sets}
+use Rattle.emath.specs.Steps.{tick}
 use Rattle.emath.specs.declared.Vec2.{Vec2}
-use Rattle.placer.specs.Operations.{checkedSetMaxWidth, checkedSetMaxHeight, checkedSetMinWidth, checkedSetMinHeight}
 use Rattle.placer.specs.declared.Placer.{Placer}
 use Rattle.records.specs.Records.{recordOf, rest}
 use Rattle.records.specs.Sheets.{recordsFrom}
@@ -46,8 +46,8 @@ one-place out w c cs =
     let e : 8 * (w + 1) ≡ 8 * w + 8 = omega arith in
     ap (λ (k : ℕ). sets (sets out (8 * w) (eight c)) k (written cs)) e ∙ sym (sets-append (eight c) (written cs) out (8 * w))
 
-as-rule : (p : Placer) (sp : Vec2) (st : Step) (out : List ℤ) (w : ℕ) → AsRule (stepMoved p sp st) (stepped 5 sp p st) out w
-unfolding stepMoved placement stepped widgetStep putAt checkedSetMaxWidth checkedSetMaxHeight checkedSetMinWidth checkedSetMinHeight
+as-rule : (p : Placer) (sp : Vec2) (st : Step) (out : List ℤ) (w : ℕ) → AsRule (stepMoved p sp st) (stepped tick sp p st) out w
+unfolding stepMoved placement stepped widgetStep putAt
 as-rule p sp (Widget x y) out w = record { number = refl; placer = refl; puts = λ cs. one-place out w _ cs }
 as-rule p sp (Space a) out w = record { number = refl; placer = refl; puts = λ cs. no-place out w cs }
 as-rule p sp (RowHeight h) out w = record { number = refl; placer = refl; puts = λ cs. no-place out w cs }
@@ -86,30 +86,30 @@ turn-of left sp n p u out w r =
     (record { run = record { number = recordMoved p sp r .number; at = n; placer = recordMoved p sp r .placer }; slice = out })
 
 step-turn : (left : ℕ) (sp : Vec2) (n : ℕ) (p : Placer) (u : List ℕ) (out : List ℤ) (w : ℕ) (st : Step) (rs : List Record)
-    → ((n : ℕ) (p : Placer) (out : List ℤ) (w : ℕ) → walked left sp n p u out w ≡ walkOf out w (runFrom 5 sp n p (stepsOf rs)))
-    → turn-of left sp n p u out w (record-of.Step st) ≡ walkOf out w (runFrom 5 sp n p (stepsOf (record-of.Step st ∷ rs)))
+    → ((n : ℕ) (p : Placer) (out : List ℤ) (w : ℕ) → walked left sp n p u out w ≡ walkOf out w (runFrom tick sp n p (stepsOf rs)))
+    → turn-of left sp n p u out w (record-of.Step st) ≡ walkOf out w (runFrom tick sp n p (stepsOf (record-of.Step st ∷ rs)))
 unfolding turn-of recordMoved stepsOf runFrom
 step-turn left sp n p u out w st rs ih =
     let a = as-rule p sp st out w in
-    let later = runFrom 5 sp (n + 1) (stepMoved p sp st .placer) (stepsOf rs) in
-    let same : later ≡ runFrom 5 sp (n + 1) (stepped 5 sp p st .placer) (stepsOf rs) = ap (λ (q : Placer). runFrom 5 sp (n + 1) q (stepsOf rs)) (a .placer) in
-    one-record n (stepMoved p sp st) (stepped 5 sp p st) out w later _ a (ih (n + 1) (stepMoved p sp st .placer) _ _) ∙ ap (λ (r : Ran). walkOf out w (followed n (stepped 5 sp p st) r)) same
+    let later = runFrom tick sp (n + 1) (stepMoved p sp st .placer) (stepsOf rs) in
+    let same : later ≡ runFrom tick sp (n + 1) (stepped tick sp p st .placer) (stepsOf rs) = ap (λ (q : Placer). runFrom tick sp (n + 1) q (stepsOf rs)) (a .placer) in
+    one-record n (stepMoved p sp st) (stepped tick sp p st) out w later _ a (ih (n + 1) (stepMoved p sp st .placer) _ _) ∙ ap (λ (r : Ran). walkOf out w (followed n (stepped tick sp p st) r)) same
 
 front-turn : (left : ℕ) (sp : Vec2) (n : ℕ) (p : Placer) (b : ℕ) (s : List ℕ) (out : List ℤ) (w : ℕ)
     → walked (suc left) sp n p (b ∷ s) out w ≡ turn-of left sp n p (rest (b ∷ s)) out w (recordOf (b ∷ s))
 unfolding walked turn-of
 front-turn left sp n p b s out w = refl
 
-no-walk : (out : List ℤ) (w n : ℕ) (p : Placer) (sp : Vec2) → done p out ≡ walkOf out w (runFrom 5 sp n p (stepsOf []))
+no-walk : (out : List ℤ) (w n : ℕ) (p : Placer) (sp : Vec2) → done p out ≡ walkOf out w (runFrom tick sp n p (stepsOf []))
 unfolding runFrom stepsOf written
 no-walk out w n p sp = refl
 
 pub walked-is-run : (left : ℕ) (sp : Vec2) (n : ℕ) (p : Placer) (s : List ℕ) (out : List ℤ) (w : ℕ) → OnlySteps (recordsFrom left s)
-    → walked left sp n p s out w ≡ walkOf out w (runFrom 5 sp n p (stepsOf (recordsFrom left s)))
+    → walked left sp n p s out w ≡ walkOf out w (runFrom tick sp n p (stepsOf (recordsFrom left s)))
 unfolding walked recordsFrom
 walked-is-run zero sp n p s out w o = no-walk out w n p sp
 walked-is-run (suc left) sp n p [] out w o = no-walk out w n p sp
 walked-is-run (suc left) sp n p (b ∷ s) out w o =
     let f = first-step o in
     let t = step-turn left sp n p (rest (b ∷ s)) out w (f .0) (recordsFrom left (rest (b ∷ s))) (λ n p out w. walked-is-run left sp n p (rest (b ∷ s)) out w (f .2)) in
-    front-turn left sp n p b s out w ∙ subst (λ (r : Record). turn-of left sp n p (rest (b ∷ s)) out w r ≡ walkOf out w (runFrom 5 sp n p (stepsOf (r ∷ recordsFrom left (rest (b ∷ s)))))) (sym (f .1)) t
+    front-turn left sp n p b s out w ∙ subst (λ (r : Record). turn-of left sp n p (rest (b ∷ s)) out w r ≡ walkOf out w (runFrom tick sp n p (stepsOf (r ∷ recordsFrom left (rest (b ∷ s)))))) (sym (f .1)) t

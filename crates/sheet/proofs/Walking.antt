@@ -8,6 +8,7 @@ use lib.Dec.{eqb}
 use borrow.Author.Tests.{eq-eqb, ne-eqb}
 use lib.IntN.{ℤ}
 use lib.ListN.{length, drop, length-drop, drop-of-length-le}
+use Rattle.emath.specs.Steps.{tick}
 use Rattle.emath.specs.declared.Vec2.{Vec2}
 use Rattle.layout.specs.Steps.{WholeRect}
 use Rattle.placer.specs.Refusals.{placerFault}
@@ -47,11 +48,11 @@ moved-placed p sp (record-of.Step st) = step-placed p sp st
 moved-placed p sp record-of.Wrong = refl
 
 abbrev pub Whole : Moved → Type 0
-Whole m = WholeRect 5 (m .frame) × WholeRect 5 (m .widget)
+Whole m = WholeRect tick (m .frame) × WholeRect tick (m .widget)
 
 step-whole : (p : Placer) (sp : Vec2) (st : Step) → stepMoved p sp st .number ≡ 0 → 0 < stepMoved p sp st .placed → Whole (stepMoved p sp st)
 unfolding stepMoved placement
-step-whole p sp (Widget w h) n l = let c = cell-whole 5 (omega arith) sp p (record { x = w; y = h }) (widget-placed sp p (record { x = w; y = h }) (cellOf 5 sp p (record { x = w; y = h })) n) in (c .frame, c .widget)
+step-whole p sp (Widget w h) n l = let c = cell-whole tick (omega arith) sp p (record { x = w; y = h }) (widget-placed sp p (record { x = w; y = h }) (cellOf tick sp p (record { x = w; y = h })) n) in (c .frame, c .widget)
 step-whole p sp (Space a) n l = absurd (omega (arith, l))
 step-whole p sp (RowHeight h) n l = absurd (omega (arith, l))
 step-whole p sp (MaxWidth w) n l = absurd (omega (arith, l))

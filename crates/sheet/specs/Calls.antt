@@ -1,9 +1,10 @@
--- What the code's calls answer, as the rule of a pass has it, in ticks: k = 5.
+-- What the code's calls answer, as the rule of a pass has it, in ticks.
 use Prim.Native.Nat.{ℕ}
 use mathlib.Core.Path.{_≡_}
 use mathlib.Core.List.{List, [], _∷_}
 use lib.ListN.{length}
 use lib.Ieee.{Float}
+use Rattle.emath.specs.Steps.{tick}
 use Rattle.emath.specs.Refusals.{least, sizeFault, pairFault, edgesFault, outside, frameFault}
 use Rattle.emath.specs.declared.Rect.{Rect}
 use Rattle.emath.specs.declared.Vec2.{Vec2}
@@ -50,11 +51,11 @@ answeredNumber f w past = least (frameFault f ∷ outside (edgesFault w) ∷ out
 -- a W, and a record that is one call
 unfoldable pub placement : Placer → Vec2 → Vec2 → Moved
 placement p sp s = record {
-  number = widgetStep sp p s (cellOf 5 sp p s) .number;
-  placer = widgetStep sp p s (cellOf 5 sp p s) .placer;
+  number = widgetStep sp p s (cellOf tick sp p s) .number;
+  placer = widgetStep sp p s (cellOf tick sp p s) .placer;
   placed = 1;
-  frame = cellOf 5 sp p s .frame;
-  widget = cellOf 5 sp p s .widget;
+  frame = cellOf tick sp p s .frame;
+  widget = cellOf tick sp p s .widget;
 }
 
 abbrev pub calledBy : PlacerAnswer → Moved
@@ -64,10 +65,10 @@ unfoldable pub stepMoved : Placer → Vec2 → Step → Moved
 stepMoved p sp (Widget w h) = placement p sp (record { x = w; y = h })
 stepMoved p sp (Space a) = calledBy (checkedAdvanceCursor p a)
 stepMoved p sp (RowHeight h) = calledBy (checkedSetRowHeight p h)
-stepMoved p sp (MaxWidth w) = calledBy (checkedSetMaxWidth p w)
-stepMoved p sp (MaxHeight h) = calledBy (checkedSetMaxHeight p h)
-stepMoved p sp (MinWidth w) = calledBy (checkedSetMinWidth p w)
-stepMoved p sp (MinHeight h) = calledBy (checkedSetMinHeight p h)
+stepMoved p sp (MaxWidth w) = calledBy (checkedSetMaxWidth tick p w)
+stepMoved p sp (MaxHeight h) = calledBy (checkedSetMaxHeight tick p h)
+stepMoved p sp (MinWidth w) = calledBy (checkedSetMinWidth tick p w)
+stepMoved p sp (MinHeight h) = calledBy (checkedSetMinHeight tick p h)
 stepMoved p sp RowEnd = calledBy (checkedEndRow p sp)
 
 -- a sheet that was checked has nothing but steps here

@@ -1,20 +1,20 @@
--- Document 01, "The sheet" and "Turned back": one pass over a sheet's records, by the placer's rules. Where a call rounds, the step is
--- 1 / 2 ^ k point; a tick is the step at k = 5.
+-- Document 01, "The sheet" and "Turned back": one pass over a sheet's records, by the placer's calls. Where a call rounds, the step is
+-- 1 / 2 ^ k point.
 use Prim.Native.Nat.{ℕ, _+_}
 use mathlib.Core.Bool.{Bool, false, cond}
 use mathlib.Core.List.{List, [], _∷_, _++_}
 use lib.Dec.{eqb}
-use Rattle.emath.specs.Refusals.{least, orElse, lengthFault, extentFault, pairFault, sizeFault, rectFault, edgesFault, outside, frameFault}
+use Rattle.emath.specs.Refusals.{least, orElse, pairFault, sizeFault, edgesFault, outside, frameFault}
 use Rattle.emath.specs.declared.Rect.{Rect}
 use Rattle.emath.specs.declared.Vec2.{Vec2}
 use Rattle.layout.specs.Refusals.{zeroRect}
-use Rattle.grid.specs.Operations.{checkedNew}
+use Rattle.grid.specs.Operations.{checkedNew as checkedNewGrid}
 use Rattle.grid.specs.declared.Memory.{Memory}
 use Rattle.grid.specs.declared.GridAnswer.{GridAnswer}
 use Rattle.grid.specs.declared.Saved.{Saved}
-use Rattle.placer.specs.Rules.{newPlacer, saveGrid, nextSpace, justifyAndAlign, advanceAfterRects, setMaxWidth, setMaxHeight, setMinWidth, setMinHeight}
-use Rattle.placer.specs.Refusals.{placerFault, advanceFault, zeroPlacer, changed}
-use Rattle.placer.specs.Operations.{checkedSetGrid, checkedAdvanceCursor, checkedEndRow, checkedSetRowHeight}
+use Rattle.placer.specs.Rules.{saveGrid, nextSpace, justifyAndAlign, advanceAfterRects}
+use Rattle.placer.specs.Refusals.{placerFault, advanceFault}
+use Rattle.placer.specs.Operations.{checkedNew, checkedSetGrid, checkedAdvanceCursor, checkedEndRow, checkedSetRowHeight, checkedSetMaxWidth, checkedSetMaxHeight, checkedSetMinWidth, checkedSetMinHeight}
 use Rattle.placer.specs.declared.Placer.{Placer}
 use Rattle.placer.specs.declared.PlacerAnswer.{PlacerAnswer}
 use Rattle.records.specs.declared.Heading.{Heading}
@@ -68,10 +68,10 @@ stepped k sp p (Widget w h) = widgetStep sp p (record { x = w; y = h }) (cellOf 
 stepped k sp p (Space a) = called (checkedAdvanceCursor p a)
 stepped k sp p RowEnd = called (checkedEndRow p sp)
 stepped k sp p (RowHeight h) = called (checkedSetRowHeight p h)
-stepped k sp p (MaxWidth w) = called (changed (least (placerFault p ∷ extentFault w ∷ [])) p (setMaxWidth k p w))
-stepped k sp p (MaxHeight h) = called (changed (least (placerFault p ∷ extentFault h ∷ [])) p (setMaxHeight k p h))
-stepped k sp p (MinWidth w) = called (changed (least (placerFault p ∷ lengthFault w ∷ [])) p (setMinWidth k p w))
-stepped k sp p (MinHeight h) = called (changed (least (placerFault p ∷ lengthFault h ∷ [])) p (setMinHeight k p h))
+stepped k sp p (MaxWidth w) = called (checkedSetMaxWidth k p w)
+stepped k sp p (MaxHeight h) = called (checkedSetMaxHeight k p h)
+stepped k sp p (MinWidth w) = called (checkedSetMinWidth k p w)
+stepped k sp p (MinHeight h) = called (checkedSetMinHeight k p h)
 
 -- ---- the records one after the other
 -- how far a pass came: a refusal's number (0: none) and record, the rectangles of the W before the fault, and the placer
@@ -96,12 +96,12 @@ runFrom k sp n p (st ∷ rest) = followed n (stepped k sp p st) (runFrom k sp (n
 -- ---- H, G
 -- H: Placer's `new`
 unfoldable pub headed : ℕ → Heading → PlacerAnswer
-headed k h = changed (rectFault (h .«max_rect»)) (zeroPlacer (h .layout)) (newPlacer k (h .«max_rect») (h .layout))
+headed k h = checkedNew k (h .«max_rect») (h .layout)
 
 -- G: GridLayout's `new` with the given memory, then `set_grid`
 unfoldable pub gridOf : Heading → GridOptions → Bool → Memory → Bool → Placer → GridAnswer
 gridOf h o known m sizing p =
-    checkedNew (h .layout .«main_dir») (p .region) known m sizing (h .spacing) (o .«min_cell_size») (o .«max_cell_size») (o .«num_columns») (o .«start_row»)
+    checkedNewGrid (h .layout .«main_dir») (p .region) known m sizing (h .spacing) (o .«min_cell_size») (o .«max_cell_size») (o .«num_columns») (o .«start_row»)
 
 unfoldable pub gridded : Heading → GridOptions → Bool → Memory → Bool → Placer → PlacerAnswer
 gridded h o known m sizing p =

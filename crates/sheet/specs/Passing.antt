@@ -7,6 +7,7 @@ use lib.IntN.{ℤ}
 use lib.Dec.{eqb}
 use lib.ListN.{length, drop}
 use lib.Ieee.{Float}
+use Rattle.emath.specs.Steps.{tick}
 use Rattle.emath.specs.declared.Vec2.{Vec2}
 use Rattle.grid.specs.declared.Memory.{Memory}
 use Rattle.placer.specs.declared.Placer.{Placer}
@@ -78,9 +79,9 @@ afterHead record-of.Wrong text h p known m sizing out = plainOn text h p m out
 
 unfoldable pub fromHeading : List ℕ → Heading → Bool → Memory → Bool → List ℤ → Answer
 fromHeading text h known m sizing out =
-    pick (eqb (headed 5 h .number) 0)
-    (afterHead (recordAt text (nextAt text 0)) text h (headed 5 h .placer) known m sizing out)
-    (turnedBack (headed 5 h .number) 1 m out)
+    pick (eqb (headed tick h .number) 0)
+    (afterHead (recordAt text (nextAt text 0)) text h (headed tick h .placer) known m sizing out)
+    (turnedBack (headed tick h .number) 1 m out)
 
 unfoldable pub fromRecord : Record → List ℕ → Bool → Memory → Bool → List ℤ → Answer
 fromRecord (record-of.Heading h) text known m sizing out = fromHeading text h known m sizing out

@@ -1,4 +1,4 @@
--- Document 01, "The sheet" and "Turned back": one pass over a text, with a lent slice for the rectangles. Ticks: k = 5.
+-- Document 01, "The sheet" and "Turned back": one pass over a text, with a lent slice for the rectangles, in ticks.
 use Prim.Native.Nat.{ℕ, _+_}
 use mathlib.Core.Path.{_≡_}
 use mathlib.Core.Bool.{Bool, cond}
@@ -7,6 +7,7 @@ use lib.Dec.{eqb}
 use lib.IntN.{ℤ}
 use lib.ListN.{length}
 use lib.Seq.{sets}
+use Rattle.emath.specs.Steps.{tick}
 use Rattle.grid.specs.declared.Memory.{Memory}
 use Rattle.records.specs.Sheets.{checked, widgetStep}
 use Rattle.records.specs.declared.Step.{Step}
@@ -24,7 +25,7 @@ abbrev pub edges : Ticks → List ℤ
 edges t = t .left ∷ t .top ∷ t .right ∷ t .bottom ∷ []
 
 abbrev pub eight : Cell → List ℤ
-eight c = edges (inTicks 5 (c .frame)) ++ edges (inTicks 5 (c .widget))
+eight c = edges (inTicks tick (c .frame)) ++ edges (inTicks tick (c .widget))
 
 unfoldable pub written : List Cell → List ℤ
 written [] = []
@@ -48,8 +49,8 @@ pub record LaidOut : Type 0 where
 unfoldable pub judged : Checked → List ℕ → Bool → Memory → Bool → List ℤ → LaidOut
 judged (Refused n at) text known m sizing out = record { outcome = refusedAt n at [] m; slice = out }
 judged (Accepted records widgets) text known m sizing out = record {
-  outcome = pass 5 (sheetIn text) known m sizing;
-  slice = sets out 0 (written (pass 5 (sheetIn text) known m sizing .cells));
+  outcome = pass tick (sheetIn text) known m sizing;
+  slice = sets out 0 (written (pass tick (sheetIn text) known m sizing .cells));
 }
 
 unfoldable pub laid : List ℕ → Bool → Memory → Bool → List ℤ → LaidOut

@@ -1,4 +1,4 @@
--- Rectangles in ticks, as the slice and the list show them. Lengths are counted in steps of 1 / 2 ^ k point; a tick is the step at k = 5.
+-- Rectangles in ticks, as the slice and the list show them. Lengths are counted in steps of 1 / 2 ^ k point.
 use Prim.Native.Nat.{ℕ}
 use lib.IntN.{ℤ, _-ℤ_}
 use lib.Ieee.{Float, binary32, mul, toSigned}

@@ -6,6 +6,7 @@ use lib.IntN.{ℤ}
 use lib.Dec.{eqb, ltb}
 use lib.Seq.{sets}
 use lib.Ieee.{Float}
+use Rattle.emath.specs.Steps.{tick}
 use Rattle.emath.specs.declared.Rect.{Rect}
 use Rattle.emath.specs.declared.Vec2.{Vec2}
 use Rattle.placer.specs.Lent.{placerOf}
@@ -18,7 +19,7 @@ use Rattle.sheet.specs.Slices.{edges}
 use Rattle.sheet.specs.Calls.{recordMoved}
 
 abbrev pub eightOf : Rect → Rect → List ℤ
-eightOf frame widget = edges (inTicks 5 frame) ++ edges (inTicks 5 widget)
+eightOf frame widget = edges (inTicks tick frame) ++ edges (inTicks tick widget)
 
 unfoldable pub putAt : List ℤ → ℕ → ℕ → Rect → Rect → List ℤ
 putAt out w placed frame widget = cond (ltb placed 1) out (sets out (8 * w) (eightOf frame widget))

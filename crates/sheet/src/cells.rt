@@ -5,22 +5,22 @@ ghost use mathlib.Core.Path.{_≡_};
 ghost use Prim.Native.Nat.{_+_, _*_, _≤_, _<_};
 ghost use lib.ListN.{length};
 ghost use lib.Seq.{sets};
-ghost use Rattle.emath.specs.Steps.{Edge};
+ghost use Rattle.emath.specs.Steps.{tick, Edge};
 ghost use Rattle.layout.specs.Steps.{WholeRect};
 ghost use Rattle.sheet.specs.Ticks.{ticks};
 ghost use Rattle.sheet.specs.Walks.{eightOf, putAt};
 
 // An edge that is a whole tick, counted in ticks.
 pub fn tick(x: f32) -> i32
-    requires { ⌜ Edge 5 x ⌝ }
-    ensures { λ r. ⌜ r ≡ ticks 5 x ⌝ }
+    requires { ⌜ Edge tick x ⌝ }
+    ensures { λ r. ⌜ r ≡ ticks tick x ⌝ }
 {
     (x * TICKS_PER_POINT) as i32
 }
 
 fn write_cell(out: &mut [i32], at: usize, frame: Rect, widget: Rect)
     requires { ⌜ at + 8 ≤ length (now out) ⌝ }
-    requires { ⌜ WholeRect 5 frame × WholeRect 5 widget ⌝ }
+    requires { ⌜ WholeRect tick frame × WholeRect tick widget ⌝ }
     ensures { λ _. ⌜ now (out .exit) ≡ sets (now (out .entry)) at (eightOf frame widget) ⌝ }
 {
     out[at] = tick(frame.left);
@@ -36,7 +36,7 @@ fn write_cell(out: &mut [i32], at: usize, frame: Rect, widget: Rect)
 // W number w, where there is one; and how many there are then.
 pub fn put(out: &mut [i32], w: usize, placed: usize, frame: Rect, widget: Rect) -> usize
     requires { ⌜ (8 * (w + placed) ≤ length (now out)) × (placed ≤ 1) ⌝ }
-    requires { ⌜ (0 < placed → WholeRect 5 frame × WholeRect 5 widget) ⌝ }
+    requires { ⌜ (0 < placed → WholeRect tick frame × WholeRect tick widget) ⌝ }
     ensures { λ r. ⌜ (r ≡ w + placed) × (now (out .exit) ≡ putAt (now (out .entry)) w placed frame widget) ⌝ }
 {
     if placed < 1 {

@@ -1,7 +1,6 @@
 -- `sheet::passing::from_heading` meets its contract. Assumes nothing.
 use mathlib.Core.Path.{refl}
 use borrow.Author.Tests.{eq-eqb, ne-eqb}
-use Rattle.placer.specs.Operations.{checkedNew}
 use Rattle.sheet.specs.Pass.{headed}
 use Rattle.sheet.specs.Passing.{fromHeading}
 use Rattle.sheet.proofs.Stepping.{headed-none}
@@ -10,14 +9,14 @@ use Rattle.sheet.proofs.passing.from_heading.Statement.{statement}
 use Rattle.sheet.proofs.passing.from_heading.Tie as tie
 
 returns : tie.Need-returns
-unfolding fromHeading headed checkedNew
+unfolding fromHeading headed
 returns c = rw (c .refused .ensures, ← c .before .before .new .ensures, ne-eqb _ _ (c .before .if1 .taken)) (refl, refl)
 
 after-head-requires : tie.Need-after-head-requires
-after-head-requires c κs = (headed-none _ _ _ (c .before .before .before .before .before .new .ensures) (c .before .before .before .before .if1 .left), c .before .before .before .before .before .before .before .before .before .pre)
+after-head-requires c κs = (headed-none _ _ _ _ (c .before .before .before .before .before .new .ensures) (c .before .before .before .before .if1 .left), c .before .before .before .before .before .before .before .before .before .pre)
 
 returns-2 : tie.Need-returns-2
-unfolding fromHeading headed checkedNew
+unfolding fromHeading headed
 returns-2 c = rw (← c .before .before .before .before .before .before .before .new .ensures, eq-eqb _ _ (c .before .before .before .before .before .before .if1 .left), ← c .before .before .before .before .next-record .ensures, ← c .before .before .before .read-record .ensures) (c .before .after-head .ensures)
 
 pub from-heading-spec : {M : Type 1} → statement M

@@ -7,6 +7,7 @@ use lib.IntN.{ℤ}
 use lib.ListN.{length}
 use lib.Seq.{sets}
 use lib.Ieee.{Float}
+use Rattle.emath.specs.Steps.{tick}
 use Rattle.grid.specs.declared.Memory.{Memory}
 use Rattle.sheet.specs.Ticks.{inTicks}
 use Rattle.sheet.specs.Slices.{edges, LaidOut, laid}
@@ -25,7 +26,7 @@ pub record Handed : Type 0 where
   pub memory : Memory
 
 abbrev pub handed : LaidOut → Handed
-handed l = record { number = l .outcome .number; at = l .outcome .at; places = l .slice; plate = edges (inTicks 5 (l .outcome .plate)); memory = l .outcome .memory }
+handed l = record { number = l .outcome .number; at = l .outcome .at; places = l .slice; plate = edges (inTicks tick (l .outcome .plate)); memory = l .outcome .memory }
 
 -- one pass, with the memory (where it is known) and sizing or not; and whether the memory is to be saved
 abbrev pub onePass : List ℕ → Bool → Memory → Bool → List ℤ → Handed × Bool

@@ -11,6 +11,7 @@ ghost use Prim.Native.Nat.{_≤_};
 ghost use lib.Dec.{leb};
 ghost use lib.ListN.{length, take};
 ghost use lib.Seq.{sets};
+ghost use Rattle.emath.specs.Steps.{tick};
 ghost use Rattle.layout.specs.Steps.{WholeRect};
 ghost use Rattle.sheet.specs.Ticks.{inTicks};
 ghost use Rattle.sheet.specs.Slices.{edges};
@@ -52,8 +53,8 @@ fn put_memory(
 
 // In ticks.
 fn put_plate(plate: &mut [i32; 4], rect: Rect)
-    requires { ⌜ WholeRect 5 rect ⌝ }
-    ensures { λ _. ⌜ now (plate .exit) ≡ edges (inTicks 5 rect) ⌝ }
+    requires { ⌜ WholeRect tick rect ⌝ }
+    ensures { λ _. ⌜ now (plate .exit) ≡ edges (inTicks tick rect) ⌝ }
 {
     let numbers = [
         tick(rect.left),
@@ -89,8 +90,8 @@ pub(crate) fn put_passed(
     at: &mut usize,
     p: Passed,
 ) -> u8
-    requires { ⌜ WholeRect 5 (p .plate) ⌝ }
-    ensures { λ n. ⌜ ((n ≡ numberOf (p .laid)) × (now (at .exit) ≡ recordOf (p .laid))) × ((now (plate .exit) ≡ edges (inTicks 5 (p .plate))) × (memoryOf (now (widths .exit)) (now (cols .exit)) (now (heights .exit)) (now (rows .exit)) ≡ p .memory)) ⌝ }
+    requires { ⌜ WholeRect tick (p .plate) ⌝ }
+    ensures { λ n. ⌜ ((n ≡ numberOf (p .laid)) × (now (at .exit) ≡ recordOf (p .laid))) × ((now (plate .exit) ≡ edges (inTicks tick (p .plate))) × (memoryOf (now (widths .exit)) (now (cols .exit)) (now (heights .exit)) (now (rows .exit)) ≡ p .memory)) ⌝ }
 {
     put_plate(plate, p.plate);
     let memory = p.memory;

@@ -7,6 +7,7 @@ use lib.IntN.{ℤ, pos}
 use lib.ListN.{length}
 use lib.Seq.{sets}
 use lib.Ieee.{Float}
+use Rattle.emath.specs.Steps.{tick}
 use Rattle.grid.specs.Memories.{emptyMemory, widths, heights}
 use Rattle.grid.specs.declared.Memory.{Memory}
 use Rattle.records.specs.Sheets.{records, widget, checked}
@@ -23,7 +24,7 @@ use Rattle.sheet.specs.Texts.{sheetIn}
 -- "The program runs a sheet with G twice …, the first pass without memory, the second using the first's memory and not sizing; the second is
 -- printed. Such a sheet is accepted if both passes are."
 unfoldable pub printed : Sheet → Outcome
-printed s = cond (eqb (passes 5 s emptyMemory 0 .number) 0 && s .«has_grid») (passes 5 s emptyMemory 1) (passes 5 s emptyMemory 0)
+printed s = cond (eqb (passes tick s emptyMemory 0 .number) 0 && s .«has_grid») (passes tick s emptyMemory 1) (passes tick s emptyMemory 0)
 
 -- the same over a text and one lent slice: what the last pass gives, and what the slice then holds
 unfoldable pub settledFrom : List ℕ → LaidOut → LaidOut
@@ -43,7 +44,7 @@ widgetLines n (r ∷ rs) (c ∷ cs) =
 -- "C index width per column, then D index height per row", a letter's entries from index i on
 unfoldable pub entryLines : ℕ → ℕ → List Float → List ℕ
 entryLines letter i [] = []
-entryLines letter i (x ∷ xs) = line letter (pos i ∷ ticks 5 x ∷ []) ++ entryLines letter (i + 1) xs
+entryLines letter i (x ∷ xs) = line letter (pos i ∷ ticks tick x ∷ []) ++ entryLines letter (i + 1) xs
 
 -- "both of the printed pass's memory, indexes from 0"
 unfoldable pub memoryLines : Memory → List ℕ
@@ -51,7 +52,7 @@ memoryLines m = entryLines 67 0 (widths m) ++ entryLines 68 0 (heights m)
 
 -- "P the plate's edges; for grids C …, then D … Lines come in this order."
 unfoldable pub acceptedLines : Bool → List Record → Outcome → List ℕ
-acceptedLines grid rs o = widgetLines 1 rs (o .cells) ++ (line 80 (edges (inTicks 5 (o .plate))) ++ cond grid (memoryLines (o .memory)) [])
+acceptedLines grid rs o = widgetLines 1 rs (o .cells) ++ (line 80 (edges (inTicks tick (o .plate))) ++ cond grid (memoryLines (o .memory)) [])
 
 -- "If refused, only X with refusal number and record number (from 1)."
 unfoldable pub refusalLine : ℕ → ℕ → List ℕ

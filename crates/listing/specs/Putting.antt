@@ -7,7 +7,7 @@ use lib.IntN.{ℤ, pos}
 use lib.ListN.{length, getD}
 use lib.Seq.{sets}
 use lib.Ieee.{Float}
-use Rattle.emath.specs.Steps.{Edge}
+use Rattle.emath.specs.Steps.{tick, Edge}
 use Rattle.emath.specs.declared.Rect.{Rect}
 use Rattle.layout.specs.Steps.{WholeRect}
 use Rattle.grid.specs.Memories.{widths, heights}
@@ -60,18 +60,18 @@ putWidgets (suc left) n k (b ∷ s) cells p = putWidgets left (n + 1) (k + mark 
 -- entries from index i on
 unfoldable pub putEntries : ℕ → ℕ → List Float → Put → Put
 putEntries letter i [] p = p
-putEntries letter i (x ∷ xs) p = putEntries letter (i + 1) xs (putLine letter (pos i ∷ ticks 5 x ∷ []) p)
+putEntries letter i (x ∷ xs) p = putEntries letter (i + 1) xs (putLine letter (pos i ∷ ticks tick x ∷ []) p)
 
 unfoldable pub putMemory : Memory → Put → Put
 putMemory m p = putEntries 68 0 (heights m) (putEntries 67 0 (widths m) p)
 
 unfoldable pub putAccepted : List ℕ → List ℤ → Rect → Memory → Put → Put
-putAccepted text cells plate m p = putMemory m (putLine 80 (edges (inTicks 5 plate)) (putWidgets 512 1 0 text cells p))
+putAccepted text cells plate m p = putMemory m (putLine 80 (edges (inTicks tick plate)) (putWidgets 512 1 0 text cells p))
 
 -- lengths that are whole ticks
 pub data Whole : List Float → Type 0 where
   none : Whole []
-  more : {x : Float} {xs : List Float} → Edge 5 x → Whole xs → Whole (x ∷ xs)
+  more : {x : Float} {xs : List Float} → Edge tick x → Whole xs → Whole (x ∷ xs)
 
 pub record WholeMemory (m : Memory) : Type 0 where
   pub cols : m .cols ≤ 32
@@ -96,7 +96,7 @@ isAccepted (laid-of.Refused number at) = false
 
 -- it can be printed: its plate and memory where it is accepted, else the record's number
 unfoldable pub printable : Laid → Passed → Type 0
-printable laid-of.Accepted p = WholeRect 5 (p .plate) × WholeMemory (p .memory)
+printable laid-of.Accepted p = WholeRect tick (p .plate) × WholeMemory (p .memory)
 printable (laid-of.Refused number at) p = at ≤ 600
 
 abbrev pub Printable : Passed → Type 0

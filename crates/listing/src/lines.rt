@@ -10,7 +10,7 @@ ghost use mathlib.Core.List.{_∷_, []};
 ghost use Prim.Native.Nat.{_+_, _≤_, _<_};
 ghost use lib.IntN.{pos};
 ghost use lib.ListN.{length, getD, drop};
-ghost use Rattle.emath.specs.Steps.{Edge};
+ghost use Rattle.emath.specs.Steps.{tick, Edge};
 ghost use Rattle.layout.specs.Steps.{WholeRect};
 ghost use Rattle.sheet.specs.Ticks.{ticks, inTicks};
 ghost use Rattle.sheet.specs.Slices.{edges};
@@ -111,8 +111,8 @@ pub fn put_widgets(out: &mut [u8], text: &[u8], cells: &[i32]) -> usize
 
 // P: the plate's edges.
 pub fn put_plate(out: &mut [u8], at: usize, plate: Rect) -> usize
-    requires { ⌜ WholeRect 5 plate ⌝ }
-    ensures { λ r. ⌜ record { at = r; out = now (out .exit) } ≡ putLine 80 (edges (inTicks 5 plate)) (record { at = at; out = now (out .entry) }) ⌝ }
+    requires { ⌜ WholeRect tick plate ⌝ }
+    ensures { λ r. ⌜ record { at = r; out = now (out .exit) } ≡ putLine 80 (edges (inTicks tick plate)) (record { at = at; out = now (out .entry) }) ⌝ }
 {
     let numbers = [
         tick(plate.left),
@@ -125,8 +125,8 @@ pub fn put_plate(out: &mut [u8], at: usize, plate: Rect) -> usize
 
 // C or D: an index, and its width or height.
 fn put_entry(out: &mut [u8], at: usize, letter: u8, index: usize, x: f32) -> usize
-    requires { ⌜ (index ≤ 128) × Edge 5 x ⌝ }
-    ensures { λ r. ⌜ record { at = r; out = now (out .exit) } ≡ putLine letter (pos index ∷ ticks 5 x ∷ []) (record { at = at; out = now (out .entry) }) ⌝ }
+    requires { ⌜ (index ≤ 128) × Edge tick x ⌝ }
+    ensures { λ r. ⌜ record { at = r; out = now (out .exit) } ≡ putLine letter (pos index ∷ ticks tick x ∷ []) (record { at = at; out = now (out .entry) }) ⌝ }
 {
     let numbers = [index as i32, tick(x)];
     put_line(out, at, letter, &numbers)

@@ -18,6 +18,7 @@ use sheet::passing::pass_again;
 use sheet::passing::pass_keeping;
 ghost use mathlib.Core.Path.{_≡_};
 ghost use Prim.Native.Nat.{_≤_, _<_};
+ghost use Rattle.emath.specs.Steps.{tick};
 ghost use Rattle.layout.specs.Steps.{WholeRect};
 ghost use Rattle.sheet.specs.Slices.{passedOf};
 ghost use Rattle.listing.specs.Lists.{settled, listIn};
@@ -52,7 +53,7 @@ fn is_accepted(laid: Laid) -> bool
 
 // An accepted pass: W for each control, P, then C and D. Without a grid the memory is empty, and there is neither.
 fn put_accepted(out: &mut [u8], text: &[u8], cells: &[i32], plate: Rect, memory: Memory) -> usize
-    requires { ⌜ WholeRect 5 plate × WholeMemory memory ⌝ }
+    requires { ⌜ WholeRect tick plate × WholeMemory memory ⌝ }
     ensures { λ r. ⌜ record { at = r; out = now (out .exit) } ≡ putAccepted (now (text .entry)) (now (cells .entry)) plate memory (record { at = 0; out = now (out .entry) }) ⌝ }
 {
     let after = put_widgets(out, text, cells);

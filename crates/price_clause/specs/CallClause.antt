@@ -1,5 +1,5 @@
 -- The price list's claims, of the call that runs: `passing::pass` over texts, memories and slices, claim by claim. `Called` is what the call
--- promises: its answer p, and what the slice then holds. A tick is 1 / 2 ^ 5 point.
+-- promises: its answer p, and what the slice then holds.
 use mathlib.Core.Path.{_≡_}
 use mathlib.Core.Bool.{Bool, true, false}
 use mathlib.Core.List.{List}
@@ -8,7 +8,7 @@ use lib.IntN.{ℤ, pos, natAbs}
 use lib.ListN.{length, getD}
 use lib.Ieee.{Float}
 use Rattle.emath.specs.Rectangles.{zeroF}
-use Rattle.emath.specs.Steps.{val, most}
+use Rattle.emath.specs.Steps.{tick, val, most}
 use Rattle.emath.specs.declared.Rect.{Rect}
 use Rattle.layout.specs.Refusals.{zeroRect}
 use Rattle.grid.specs.Memories.{colWidth}
@@ -46,7 +46,7 @@ pub record InTurn (text : List ℕ) (m : Memory) (count : ℕ) (answers : ℕ �
 -- frames by the number of their W, and plates, in ticks
 pub record NoLessIn (count : ℕ) (p q : Passed) (out out′ : List ℤ) : Type 0 where
   pub frames : (k : ℕ) → k < count → FrameNoLess (frameIn out k) (frameIn out′ k)
-  pub plate : PlateNoLess (inTicks 5 (p .plate)) (inTicks 5 (q .plate))
+  pub plate : PlateNoLess (inTicks tick (p .plate)) (inTicks tick (q .plate))
 
 -- call n is accepted, answers what the second one did (plate, memory and flag), and leaves the slice as the second one did
 pub record SecondAgain (answers : ℕ → Passed) (slices : ℕ → List ℤ) (n : ℕ) : Type 0 where
@@ -56,8 +56,8 @@ pub record SecondAgain (answers : ℕ → Passed) (slices : ℕ → List ℤ) (n
 
 -- an edge that is exactly so many ticks, of the domain
 pub record IsTicks (x : Float) (z : ℤ) : Type 0 where
-  pub is : x ≡ val 5 z
-  pub few : natAbs z ≤ most 5
+  pub is : x ≡ val tick z
+  pub few : natAbs z ≤ most tick
 
 pub record RectIsTicks (r : Rect) (t : Ticks) : Type 0 where
   pub left : IsTicks (r .left) (t .left)
@@ -93,12 +93,12 @@ pub record CallClause : Type 0 where
   -- call after the second is the second again
   pub further : (text : List ℕ) → sheetIn text .«has_grid» ≡ true → (m : Memory) (count : ℕ) (p : ℕ → Passed) (out : ℕ → List ℤ)
       → InTurn text m count p out → p 0 .laid ≡ Accepted → p 1 .laid ≡ Accepted
-      → TopsOnSteps 5 (sheetIn text) false m true → TopsOnSteps 5 (sheetIn text) true (p 0 .memory) false
+      → TopsOnSteps tick (sheetIn text) false m true → TopsOnSteps tick (sheetIn text) true (p 0 .memory) false
       → (n : ℕ) → n + 2 < count → SecondAgain p out (n + 2)
   -- which it is in every accepted call where there is no K
   pub without-K : (text : List ℕ) → sheetIn text .«has_grid» ≡ true → NoK (sheetIn text .steps)
       → (known : Bool) (m : Memory) (sizing : Bool) (out exit : List ℤ) (p : Passed) → Called text known m sizing out p exit → p .laid ≡ Accepted
-      → TopsOnSteps 5 (sheetIn text) known m sizing
+      → TopsOnSteps tick (sheetIn text) known m sizing
   -- more than was asked: every call after the second is the second again, with K too
   pub all-further : (text : List ℕ) → sheetIn text .«has_grid» ≡ true → (m : Memory) (count : ℕ) (p : ℕ → Passed) (out : ℕ → List ℤ)
       → InTurn text m count p out → p 0 .laid ≡ Accepted → p 1 .laid ≡ Accepted → (n : ℕ) → n + 2 < count → SecondAgain p out (n + 2)
@@ -106,4 +106,4 @@ pub record CallClause : Type 0 where
   -- the pass, and the plate's edges are whole ticks
   pub whole : (text : List ℕ) (known : Bool) (m : Memory) (sizing : Bool) (out exit : List ℤ) (p : Passed) → Called text known m sizing out p exit
       → ((k : ℕ) → k < length (laid text known m sizing out .outcome .cells) → WrittenWhole (laid text known m sizing out .outcome .cells) exit k)
-      × RectIsTicks (p .plate) (inTicks 5 (p .plate))
+      × RectIsTicks (p .plate) (inTicks tick (p .plate))

@@ -1,4 +1,4 @@
--- Document 01, "Cases marked P are proved": one table, of what the rules give and what the paper says. Ticks are steps of 1 / 2 ^ 5 point.
+-- Document 01, "Cases marked P are proved": one table, of what the rules give and what the paper says.
 use Prim.Native.Nat.{ℕ, zero, suc}
 use mathlib.Core.Bool.{Bool, true, false, _&&_}
 use lib.Dec.{eqb}
@@ -6,7 +6,7 @@ use mathlib.Core.List.{List, [], _∷_, _++_, map}
 use lib.IntN.{ℤ, pos, negsuc}
 use lib.ListN.{replicate}
 use Rattle.emath.specs.Rectangles.{roundUi, alignOn}
-use Rattle.emath.specs.Steps.{val}
+use Rattle.emath.specs.Steps.{tick, val}
 use Rattle.emath.specs.declared.Align.the-variants.{Center}
 use Rattle.grid.specs.Memories.{emptyMemory, widths, heights}
 use Rattle.text.specs.Lines.{line, texts}
@@ -22,10 +22,10 @@ edges t = t .left ∷ t .top ∷ t .right ∷ t .bottom ∷ []
 
 unfoldable pub rectangles : List Cell → List ℤ
 rectangles [] = []
-rectangles (c ∷ rest) = edges (inTicks 5 (c .frame)) ++ (edges (inTicks 5 (c .widget)) ++ rectangles rest)
+rectangles (c ∷ rest) = edges (inTicks tick (c .frame)) ++ (edges (inTicks tick (c .widget)) ++ rectangles rest)
 
 abbrev pub told : Outcome → List ℤ
-told o = pos (o .number) ∷ pos (o .at) ∷ (edges (inTicks 5 (o .plate)) ++ (rectangles (o .cells) ++ (map (ticks 5) (widths (o .memory)) ++ map (ticks 5) (heights (o .memory)))))
+told o = pos (o .number) ∷ pos (o .at) ∷ (edges (inTicks tick (o .plate)) ++ (rectangles (o .cells) ++ (map (ticks tick) (widths (o .memory)) ++ map (ticks tick) (heights (o .memory)))))
 
 pub record Case : Type 0 where
   pub found : List ℤ
@@ -78,11 +78,11 @@ without-grid frames plate = pos 0 ∷ pos 0 ∷ (edges plate ++ twiceEach frames
 
 -- pass n of a text, from 0
 abbrev pub pass-of : List ℕ → ℕ → List ℤ
-pass-of text n = told (passes 5 (sheetIn text) emptyMemory n)
+pass-of text n = told (passes tick (sheetIn text) emptyMemory n)
 
 -- a refusal's number and record
 abbrev pub refusal-of : List ℕ → List ℤ
-refusal-of text = (pos (passes 5 (sheetIn text) emptyMemory 0 .number) ∷ pos (passes 5 (sheetIn text) emptyMemory 0 .at) ∷ [])
+refusal-of text = (pos (passes tick (sheetIn text) emptyMemory 0 .number) ∷ pos (passes tick (sheetIn text) emptyMemory 0 .at) ∷ [])
 
 abbrev pub refused : ℕ → ℕ → List ℤ
 refused number at = (pos number ∷ pos at ∷ [])
@@ -111,16 +111,16 @@ the-grid = record {
 -- "one tick centred between -1 and 1 becomes -1 to 1"
 abbrev pub one-tick-centred : Case
 one-tick-centred = record {
-  found = (ticks 5 (roundUi 5 (alignOn Center (val 5 (negsuc 0)) (val 5 (pos 1)) (val 5 (pos 1)) .min)) ∷ ticks 5 (roundUi 5 (alignOn Center (val 5 (negsuc 0)) (val 5 (pos 1)) (val 5 (pos 1)) .max)) ∷ []);
+  found = (ticks tick (roundUi tick (alignOn Center (val tick (negsuc 0)) (val tick (pos 1)) (val tick (pos 1)) .min)) ∷ ticks tick (roundUi tick (alignOn Center (val tick (negsuc 0)) (val tick (pos 1)) (val tick (pos 1)) .max)) ∷ []);
   expected = (negsuc 0 ∷ pos 1 ∷ []);
 }
 
 -- "half a tick rounds to 1", "minus half to -1"
 abbrev pub half-a-tick : Case
-half-a-tick = record { found = (ticks 5 (roundUi 5 (val 6 (pos 1))) ∷ []); expected = (pos 1 ∷ []) }
+half-a-tick = record { found = (ticks tick (roundUi tick (val 6 (pos 1))) ∷ []); expected = (pos 1 ∷ []) }
 
 abbrev pub minus-half-a-tick : Case
-minus-half-a-tick = record { found = (ticks 5 (roundUi 5 (val 6 (negsuc 0))) ∷ []); expected = (negsuc 0 ∷ []) }
+minus-half-a-tick = record { found = (ticks tick (roundUi tick (val 6 (negsuc 0))) ∷ []); expected = (negsuc 0 ∷ []) }
 
 -- "wrap, top-aligned, max_rect 0 0 640 3200, spacing 0, W 320 100 twice: second frame 320 0 640 100"
 abbrev pub twice : Case

@@ -5,6 +5,7 @@ use mathlib.Core.Bool.{Bool, cond}
 use mathlib.Core.List.{List, _∷_, _++_}
 use lib.IntN.{pos}
 use lib.ListN.{length, getD}
+use Rattle.emath.specs.Steps.{tick}
 use Rattle.grid.specs.Memories.{widths, heights}
 use Rattle.sheet.specs.Pass.{Cell, Outcome}
 use Rattle.sheet.specs.Ticks.{inTicks}
@@ -17,6 +18,6 @@ use Rattle.drawing.specs.Pages.{linesFrom, columnsOf, rowsOf}
 pub record Shows (grid : Bool) (s : List ℕ) (o : Outcome) : Type 0 where
   pub controls : linesFrom 512 87 74 s 0 ≡ length (o .cells)
   pub cells : (before after : List Cell) (c : Cell) → o .cells ≡ before ++ (c ∷ after) → (i : ℕ) → i < 8 → fieldOf s (74 * length before) (1 + i) ≡ getD (eight c) i (pos 0)
-  pub plate : (i : ℕ) → i < 4 → fieldOf s (74 * length (o .cells)) i ≡ getD (edges (inTicks 5 (o .plate))) i (pos 0)
+  pub plate : (i : ℕ) → i < 4 → fieldOf s (74 * length (o .cells)) i ≡ getD (edges (inTicks tick (o .plate))) i (pos 0)
   pub columns : columnsOf s (length (o .cells)) ≡ cond grid (length (widths (o .memory))) 0
   pub rows : rowsOf s (length (o .cells)) (columnsOf s (length (o .cells))) ≡ cond grid (length (heights (o .memory))) 0

@@ -5,6 +5,7 @@ use mathlib.Core.List.{List}
 use lib.Dec.{leb, ltb, eqb}
 use lib.IntN.{ℤ, pos, negsuc}
 use lib.ListN.{length, getD}
+use Rattle.text.specs.Letters as letters
 use Rattle.drawing.specs.Pieces.{fieldOf}
 use Rattle.drawing.specs.declared.Page.{Page}
 
@@ -70,10 +71,10 @@ ruled widgets columns rows width height = cut widgets columns rows width height 
 
 -- W lines have 74 bytes, P 34, C and D 18
 unfoldable pub columnsOf : List ℕ → ℕ → ℕ
-columnsOf s widgets = linesFrom 32 67 18 s (74 * widgets + 34)
+columnsOf s widgets = linesFrom 32 letters.C 18 s (74 * widgets + 34)
 
 unfoldable pub rowsOf : List ℕ → ℕ → ℕ → ℕ
-rowsOf s widgets columns = linesFrom 128 68 18 s (74 * widgets + 34 + 18 * columns)
+rowsOf s widgets columns = linesFrom 128 letters.D 18 s (74 * widgets + 34 + 18 * columns)
 
 unfoldable pub pageFor : List ℕ → ℕ → Page
 pageFor s widgets = ruled widgets (columnsOf s widgets) (rowsOf s widgets (columnsOf s widgets)) (span s (74 * widgets) 0 2) (span s (74 * widgets) 1 3)

@@ -5,6 +5,7 @@ use mathlib.Core.List.{List, [], _∷_, _++_}
 use lib.Dec.{eqb}
 use lib.ListN.{length}
 use lib.Seq.{sets}
+use Rattle.text.specs.Letters as letters
 use Rattle.drawing.specs.Pieces.{ascii, filled, joined}
 use Rattle.drawing.specs.Pages.{placeOf, isLine, linesFrom, pageFor, px, thickness, bottom, pageWidth, pageHeight, barFrom}
 use Rattle.drawing.specs.Drawings.{plateAt, plateRow, each}
@@ -101,7 +102,7 @@ reason n =
 
 -- the number of the X line at a place, 0 where there is none
 unfoldable pub numberOf : List ℕ → ℕ → ℕ
-numberOf s line = cond (isLine 88 18 s line) (placeOf s line 0 - 10000000) 0
+numberOf s line = cond (isLine letters.X 18 s line) (placeOf s line 0 - 10000000) 0
 
 unfoldable pub refusal : List ℕ → ℕ → List (List ℕ)
 refusal s line =
@@ -112,10 +113,10 @@ refusal s line =
 
 -- ---- the drawing of a list, whose W lines come first
 unfoldable pub drawnFrom : List ℕ → ℕ → List (List ℕ)
-drawnFrom s widgets = cond (isLine 80 34 s (74 * widgets)) (accepted (pageFor s widgets) s) (refusal s (74 * widgets))
+drawnFrom s widgets = cond (isLine letters.P 34 s (74 * widgets)) (accepted (pageFor s widgets) s) (refusal s (74 * widgets))
 
 unfoldable pub pieces : List ℕ → List (List ℕ)
-pieces s = drawnFrom s (linesFrom 512 87 74 s 0)
+pieces s = drawnFrom s (linesFrom 512 letters.W 74 s 0)
 
 unfoldable pub drawing : List ℕ → List ℕ
 drawing s = joined (pieces s)

@@ -7,6 +7,11 @@ use crate::domain::both_finite;
 use crate::domain::both_within;
 use crate::domain::is_finite;
 use crate::domain::is_within;
+use crate::numbers::INSIDE_OUT;
+use crate::numbers::NEGATIVE;
+use crate::numbers::NOT_FINITE;
+use crate::numbers::OUTSIDE;
+use crate::numbers::TOO_FAR;
 
 pub fn number_when(b: bool, n: u8) -> u8
     ensures { λ r. ⌜ r ≡ when b n ⌝ }
@@ -39,14 +44,14 @@ pub fn length_fault(x: f32) -> u8
     if is_within(x) {
         return 0;
     }
-    lesser_number(number_when(!is_finite(x), 4), 5)
+    lesser_number(number_when(!is_finite(x), NOT_FINITE), TOO_FAR)
 }
 
 // Of a maximum width or height, say, which is not negative.
 pub fn extent_fault(x: f32) -> u8
     ensures { λ n. ⌜ n ≡ extentFault x ⌝ }
 {
-    lesser_number(length_fault(x), number_when(x < 0.0, 6))
+    lesser_number(length_fault(x), number_when(x < 0.0, NEGATIVE))
 }
 
 pub fn pair_fault(x: f32, y: f32) -> u8
@@ -55,13 +60,13 @@ pub fn pair_fault(x: f32, y: f32) -> u8
     if both_within(x, y) {
         return 0;
     }
-    lesser_number(number_when(!both_finite(x, y), 4), 5)
+    lesser_number(number_when(!both_finite(x, y), NOT_FINITE), TOO_FAR)
 }
 
 pub fn size_fault(v: Vec2) -> u8
     ensures { λ n. ⌜ n ≡ sizeFault v ⌝ }
 {
-    lesser_number(pair_fault(v.x, v.y), number_when(v.is_negative(), 6))
+    lesser_number(pair_fault(v.x, v.y), number_when(v.is_negative(), NEGATIVE))
 }
 
 pub fn edges_fault(r: Rect) -> u8
@@ -70,20 +75,20 @@ pub fn edges_fault(r: Rect) -> u8
     if r.is_within() {
         return 0;
     }
-    lesser_number(number_when(!r.is_finite(), 4), 5)
+    lesser_number(number_when(!r.is_finite(), NOT_FINITE), TOO_FAR)
 }
 
 pub fn rect_fault(r: Rect) -> u8
     ensures { λ n. ⌜ n ≡ rectFault r ⌝ }
 {
-    lesser_number(edges_fault(r), number_when(r.is_inside_out(), 6))
+    lesser_number(edges_fault(r), number_when(r.is_inside_out(), NEGATIVE))
 }
 
 // The number of an answer or a new state that has the fault n.
 pub fn outside_domain(n: u8) -> u8
     ensures { λ r. ⌜ r ≡ outside n ⌝ }
 {
-    if n == 0 { 0 } else { 9 }
+    if n == 0 { 0 } else { OUTSIDE }
 }
 
 pub fn frame_fault(r: Rect) -> u8
@@ -91,6 +96,6 @@ pub fn frame_fault(r: Rect) -> u8
 {
     lesser_number(
         outside_domain(edges_fault(r)),
-        number_when(r.is_inside_out(), 10),
+        number_when(r.is_inside_out(), INSIDE_OUT),
     )
 }

@@ -5,6 +5,7 @@ pub mod domain;
 pub mod faults;
 pub mod gui_rounding;
 pub mod num;
+pub mod numbers;
 mod rects;
 
 pub struct Vec2 {

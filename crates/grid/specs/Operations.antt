@@ -6,6 +6,7 @@ use mathlib.Core.List.{[], _∷_}
 use lib.Dec.{ltb, leb}
 use lib.Ieee.{Float}
 use Rattle.emath.specs.Rectangles.{zeroF}
+use Rattle.emath.specs.Numbers as number
 use Rattle.emath.specs.Refusals.{when, least, orElse, lengthFault, extentFault, pairFault, sizeFault, rectFault, outside}
 use Rattle.layout.specs.Refusals.{cursorFault, regionFault}
 use Rattle.layout.specs.Operations.{placed, framed}
@@ -28,11 +29,11 @@ use Rattle.grid.specs.declared.SavedAnswer.{SavedAnswer}
 -- ---- Memory
 unfoldable pub checkedSetMinColWidth : Memory → ℕ → Float → MemoryAnswer
 checkedSetMinColWidth m col w =
-    memoryAnswer (orElse (least (memoryFault m ∷ extentFault w ∷ when (leb 32 col) 8 ∷ [])) (outside (memoryFault (setMinColWidth m col w)))) m (setMinColWidth m col w)
+    memoryAnswer (orElse (least (memoryFault m ∷ extentFault w ∷ when (leb 32 col) number.gridFull ∷ [])) (outside (memoryFault (setMinColWidth m col w)))) m (setMinColWidth m col w)
 
 unfoldable pub checkedSetMinRowHeight : Memory → ℕ → Float → MemoryAnswer
 checkedSetMinRowHeight m row h =
-    memoryAnswer (orElse (least (memoryFault m ∷ extentFault h ∷ when (leb 128 row) 8 ∷ [])) (outside (memoryFault (setMinRowHeight m row h)))) m (setMinRowHeight m row h)
+    memoryAnswer (orElse (least (memoryFault m ∷ extentFault h ∷ when (leb 128 row) number.gridFull ∷ [])) (outside (memoryFault (setMinRowHeight m row h)))) m (setMinRowHeight m row h)
 
 -- a column or row beyond the count has no entry
 unfoldable pub checkedColWidth : Memory → ℕ → LengthAnswer
@@ -50,7 +51,7 @@ unfoldable pub checkedNew : Direction → Region → Bool → Memory → Bool �
 checkedNew d g known m sizing sp smallest largest columns start =
     gridAnswer
     (orElse
-    (least (regionFault d g ∷ memoryFault (knownMemory known m) ∷ pairFault (sp .x) (sp .y) ∷ sizeFault smallest ∷ maxCellFault largest ∷ directionFault d ∷ when (ltb 128 start) 8 ∷ []))
+    (least (regionFault d g ∷ memoryFault (knownMemory known m) ∷ pairFault (sp .x) (sp .y) ∷ sizeFault smallest ∷ maxCellFault largest ∷ directionFault d ∷ when (ltb 128 start) number.gridFull ∷ []))
     (outside (gridFault (newGrid g known m sizing sp smallest largest columns start))))
     emptyGrid (newGrid g known m sizing sp smallest largest columns start)
 
@@ -74,7 +75,7 @@ unfoldable pub checkedAdvance : GridLayout → Direction → Rect → Rect → R
 checkedAdvance g d c f w =
     movedAnswer
     (orElse
-    (least (gridFault g ∷ cursorFault d c ∷ rectFault f ∷ rectFault w ∷ directionFault d ∷ when (leb 32 (g .col)) 8 ∷ when (leb 128 (g .row)) 8 ∷ []))
+    (least (gridFault g ∷ cursorFault d c ∷ rectFault f ∷ rectFault w ∷ directionFault d ∷ when (leb 32 (g .col)) number.gridFull ∷ when (leb 128 (g .row)) number.gridFull ∷ []))
     (outside (movedFault d (advance g c w))))
     (record { grid = g; cursor = c }) (advance g c w)
 
@@ -82,7 +83,7 @@ checkedAdvance g d c f w =
 unfoldable pub checkedEndRow : GridLayout → Direction → Rect → MovedAnswer
 checkedEndRow g d c =
     movedAnswer
-    (orElse (least (gridFault g ∷ cursorFault d c ∷ directionFault d ∷ when (leb 128 (g .row)) 8 ∷ [])) (outside (movedFault d (endRow g c))))
+    (orElse (least (gridFault g ∷ cursorFault d c ∷ directionFault d ∷ when (leb 128 (g .row)) number.gridFull ∷ [])) (outside (movedFault d (endRow g c))))
     (record { grid = g; cursor = c }) (endRow g c)
 
 unfoldable pub checkedSave : GridLayout → SavedAnswer

@@ -5,6 +5,7 @@ use mathlib.Core.List.{[], _∷_}
 use lib.Dec.{eqb, ltb}
 use lib.Ieee.{Float}
 use Rattle.emath.specs.Rectangles.{zeroF}
+use Rattle.emath.specs.Numbers as number
 use Rattle.emath.specs.Refusals.{when, least, pairFault, sizeFault, edgesFault}
 use Rattle.layout.specs.Rules.{infinity}
 use Rattle.layout.specs.Refusals.{excused, cursorFault}
@@ -29,7 +30,7 @@ use Rattle.grid.specs.declared.SavedAnswer.{SavedAnswer}
 -- ---- the faults of a state
 -- 4, 5 and 6 of the counted entries; 8: "a state's … column count above 32, or … row count above 128"
 unfoldable pub memoryFault : Memory → ℕ
-memoryFault m = least (entriesFault (widths m) ∷ entriesFault (heights m) ∷ when (ltb 32 (m .cols)) 8 ∷ when (ltb 128 (m .rows)) 8 ∷ [])
+memoryFault m = least (entriesFault (widths m) ∷ entriesFault (heights m) ∷ when (ltb 32 (m .cols)) number.gridFull ∷ when (ltb 128 (m .rows)) number.gridFull ∷ [])
 
 -- "a maximum cell size may be positive infinity"
 unfoldable pub maxCellFault : Vec2 → ℕ
@@ -39,7 +40,7 @@ maxCellFault v = sizeFault (record { x = excused infinity (v .x); y = excused in
 unfoldable pub gridFault : GridLayout → ℕ
 gridFault g = least (
     memoryFault (g .«prev_state») ∷ memoryFault (g .«curr_state») ∷ edgesFault (g .«initial_available») ∷ pairFault (g .spacing .x) (g .spacing .y)
-    ∷ sizeFault (g .«min_cell_size») ∷ maxCellFault (g .«max_cell_size») ∷ when (ltb 32 (g .col)) 8 ∷ when (ltb 128 (g .row)) 8 ∷ [])
+    ∷ sizeFault (g .«min_cell_size») ∷ maxCellFault (g .«max_cell_size») ∷ when (ltb 32 (g .col)) number.gridFull ∷ when (ltb 128 (g .row)) number.gridFull ∷ [])
 
 -- 7: "grid on direction 1 or 3"
 unfoldable pub fitsGrid : Direction → Bool
@@ -49,7 +50,7 @@ fitsGrid TopDown = true
 fitsGrid BottomUp = false
 
 unfoldable pub directionFault : Direction → ℕ
-directionFault d = when (not (fitsGrid d)) 7
+directionFault d = when (not (fitsGrid d)) number.notInGrid
 
 -- a new grid and cursor
 unfoldable pub movedFault : Direction → Moved → ℕ

@@ -19,6 +19,8 @@ use emath::faults::number_when;
 use emath::faults::pair_fault;
 use emath::faults::size_fault;
 use emath::num::infinity;
+use emath::numbers::GRID_FULL;
+use emath::numbers::NOT_IN_GRID;
 use layout::Direction;
 use layout::faults::cursor_fault;
 use layout::faults::excused_edge;
@@ -51,8 +53,8 @@ pub fn memory_fault(memory: Memory) -> u8
         lesser_number(
             heights_fault(memory),
             lesser_number(
-                number_when(MAX_COLS < memory.cols, 8),
-                number_when(MAX_ROWS < memory.rows, 8),
+                number_when(MAX_COLS < memory.cols, GRID_FULL),
+                number_when(MAX_ROWS < memory.rows, GRID_FULL),
             ),
         ),
     )
@@ -72,8 +74,8 @@ pub fn grid_fault(grid: GridLayout) -> u8
     ensures { λ n. ⌜ n ≡ gridFault grid ⌝ }
 {
     let places = lesser_number(
-        number_when(MAX_COLS < grid.col, 8),
-        number_when(MAX_ROWS < grid.row, 8),
+        number_when(MAX_COLS < grid.col, GRID_FULL),
+        number_when(MAX_ROWS < grid.row, GRID_FULL),
     );
     let most = lesser_number(max_cell_fault(grid.max_cell_size), places);
     let least = lesser_number(size_fault(grid.min_cell_size), most);
@@ -99,7 +101,7 @@ fn fits_grid(main_dir: Direction) -> bool
 pub fn direction_fault(main_dir: Direction) -> u8
     ensures { λ n. ⌜ n ≡ directionFault «main_dir» ⌝ }
 {
-    number_when(!fits_grid(main_dir), 7)
+    number_when(!fits_grid(main_dir), NOT_IN_GRID)
 }
 
 pub fn moved_fault(main_dir: Direction, moved: Moved) -> u8

@@ -34,6 +34,7 @@ use emath::faults::outside_domain;
 use emath::faults::pair_fault;
 use emath::faults::rect_fault;
 use emath::faults::size_fault;
+use emath::numbers::GRID_FULL;
 use layout::Direction;
 use layout::RectAnswer;
 use layout::Region;
@@ -51,7 +52,7 @@ impl Memory {
         ensures { λ a. ⌜ a ≡ checkedSetMinColWidth self col width ⌝ }
     {
         let new = memories::set_min_col_width(self, col, width);
-        let rest = lesser_number(extent_fault(width), number_when(MAX_COLS <= col, 8));
+        let rest = lesser_number(extent_fault(width), number_when(MAX_COLS <= col, GRID_FULL));
         let before = lesser_number(memory_fault(self), rest);
         memory_answer(
             or_else(before, outside_domain(memory_fault(new))),
@@ -64,7 +65,7 @@ impl Memory {
         ensures { λ a. ⌜ a ≡ checkedSetMinRowHeight self row height ⌝ }
     {
         let new = memories::set_min_row_height(self, row, height);
-        let rest = lesser_number(extent_fault(height), number_when(MAX_ROWS <= row, 8));
+        let rest = lesser_number(extent_fault(height), number_when(MAX_ROWS <= row, GRID_FULL));
         let before = lesser_number(memory_fault(self), rest);
         memory_answer(
             or_else(before, outside_domain(memory_fault(new))),
@@ -133,7 +134,7 @@ impl GridLayout {
         );
         let place = lesser_number(
             direction_fault(main_dir),
-            number_when(MAX_ROWS < start_row, 8),
+            number_when(MAX_ROWS < start_row, GRID_FULL),
         );
         let most = lesser_number(max_cell_fault(max_cell_size), place);
         let least = lesser_number(size_fault(min_cell_size), most);
@@ -207,8 +208,8 @@ impl GridLayout {
     {
         let new = grids::advance(self, cursor, widget_rect);
         let room = lesser_number(
-            number_when(MAX_COLS <= self.col, 8),
-            number_when(MAX_ROWS <= self.row, 8),
+            number_when(MAX_COLS <= self.col, GRID_FULL),
+            number_when(MAX_ROWS <= self.row, GRID_FULL),
         );
         let place = lesser_number(direction_fault(main_dir), room);
         let rects = lesser_number(
@@ -233,7 +234,7 @@ impl GridLayout {
         let new = grids::end_row(self, cursor);
         let place = lesser_number(
             direction_fault(main_dir),
-            number_when(MAX_ROWS <= self.row, 8),
+            number_when(MAX_ROWS <= self.row, GRID_FULL),
         );
         let before = lesser_number(
             grid_fault(self),

@@ -14,6 +14,7 @@ use Rattle.records.specs.Sheets.{records, widget, checked}
 use Rattle.records.specs.declared.Record.{Record}
 use Rattle.records.specs.declared.Checked.{Checked}
 use Rattle.records.specs.declared.Checked.the-variants.{Accepted, Refused}
+use Rattle.text.specs.Letters as letters
 use Rattle.text.specs.Lines.{line}
 use Rattle.sheet.specs.Pass.{Sheet, Cell, Outcome}
 use Rattle.sheet.specs.Passes.{passes}
@@ -39,7 +40,7 @@ unfoldable pub widgetLines : ℕ → List Record → List Cell → List ℕ
 widgetLines n [] cells = []
 widgetLines n (r ∷ rs) [] = []
 widgetLines n (r ∷ rs) (c ∷ cs) =
-    cond (eqb (widget r) 1) (line 87 (pos n ∷ eight c) ++ widgetLines (n + 1) rs cs) (widgetLines (n + 1) rs (c ∷ cs))
+    cond (eqb (widget r) 1) (line letters.W (pos n ∷ eight c) ++ widgetLines (n + 1) rs cs) (widgetLines (n + 1) rs (c ∷ cs))
 
 -- "C index width per column, then D index height per row", a letter's entries from index i on
 unfoldable pub entryLines : ℕ → ℕ → List Float → List ℕ
@@ -48,15 +49,15 @@ entryLines letter i (x ∷ xs) = line letter (pos i ∷ ticks tick x ∷ []) ++ 
 
 -- "both of the printed pass's memory, indexes from 0"
 unfoldable pub memoryLines : Memory → List ℕ
-memoryLines m = entryLines 67 0 (widths m) ++ entryLines 68 0 (heights m)
+memoryLines m = entryLines letters.C 0 (widths m) ++ entryLines letters.D 0 (heights m)
 
 -- "P the plate's edges; for grids C …, then D … Lines come in this order."
 unfoldable pub acceptedLines : Bool → List Record → Outcome → List ℕ
-acceptedLines grid rs o = widgetLines 1 rs (o .cells) ++ (line 80 (edges (inTicks tick (o .plate))) ++ cond grid (memoryLines (o .memory)) [])
+acceptedLines grid rs o = widgetLines 1 rs (o .cells) ++ (line letters.P (edges (inTicks tick (o .plate))) ++ cond grid (memoryLines (o .memory)) [])
 
 -- "If refused, only X with refusal number and record number (from 1)."
 unfoldable pub refusalLine : ℕ → ℕ → List ℕ
-refusalLine number at = line 88 (pos number ∷ pos at ∷ [])
+refusalLine number at = line letters.X (pos number ∷ pos at ∷ [])
 
 unfoldable pub outcomeLines : Bool → List Record → Outcome → List ℕ
 outcomeLines grid rs o = cond (eqb (o .number) 0) (acceptedLines grid rs o) (refusalLine (o .number) (o .at))

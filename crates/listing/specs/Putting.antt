@@ -16,6 +16,7 @@ use Rattle.records.specs.Parts.{letter}
 use Rattle.records.specs.Records.{rest, recordAt, nextAt}
 use Rattle.records.specs.declared.Record.{Record}
 use Rattle.records.specs.declared.Record.the-variants as record-of
+use Rattle.text.specs.Letters as letters
 use Rattle.text.specs.Lines.{line, haveTexts}
 use Rattle.sheet.specs.declared.Laid.{Laid}
 use Rattle.sheet.specs.declared.Laid.the-variants as laid-of
@@ -45,11 +46,11 @@ placesOf cells k =
 
 -- 1 where the text begins with a W, else 0
 unfoldable pub mark : List ℕ → ℕ
-mark s = cond (eqb (letter s) 87) 1 0
+mark s = cond (eqb (letter s) letters.W) 1 0
 
 -- W number k, of record n, where there is one
 unfoldable pub putWidget : ℕ → ℕ → ℕ → List ℤ → Put → Put
-putWidget here n k cells p = cond (eqb here 0) p (putLine 87 (pos n ∷ placesOf cells k) p)
+putWidget here n k cells p = cond (eqb here 0) p (putLine letters.W (pos n ∷ placesOf cells k) p)
 
 -- record n is at the front of the text, k W came before it, and there may be so many records more
 unfoldable pub putWidgets : ℕ → ℕ → ℕ → List ℕ → List ℤ → Put → Put
@@ -63,10 +64,10 @@ putEntries letter i [] p = p
 putEntries letter i (x ∷ xs) p = putEntries letter (i + 1) xs (putLine letter (pos i ∷ ticks tick x ∷ []) p)
 
 unfoldable pub putMemory : Memory → Put → Put
-putMemory m p = putEntries 68 0 (heights m) (putEntries 67 0 (widths m) p)
+putMemory m p = putEntries letters.D 0 (heights m) (putEntries letters.C 0 (widths m) p)
 
 unfoldable pub putAccepted : List ℕ → List ℤ → Rect → Memory → Put → Put
-putAccepted text cells plate m p = putMemory m (putLine 80 (edges (inTicks tick plate)) (putWidgets 512 1 0 text cells p))
+putAccepted text cells plate m p = putMemory m (putLine letters.P (edges (inTicks tick plate)) (putWidgets 512 1 0 text cells p))
 
 -- lengths that are whole ticks
 pub data Whole : List Float → Type 0 where
@@ -104,7 +105,7 @@ Printable p = printable (p .laid) p
 
 unfoldable pub putPassed : Laid → List ℕ → List ℤ → Passed → Put → Put
 putPassed laid-of.Accepted text cells p at = putAccepted text cells (p .plate) (p .memory) at
-putPassed (laid-of.Refused number n) text cells p at = putLine 88 (pos number ∷ pos n ∷ []) at
+putPassed (laid-of.Refused number n) text cells p at = putLine letters.X (pos number ∷ pos n ∷ []) at
 
 unfoldable pub numberOf : Laid → ℕ
 numberOf laid-of.Accepted = 0

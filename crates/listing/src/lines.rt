@@ -10,6 +10,7 @@ ghost use mathlib.Core.List.{_∷_, []};
 ghost use Prim.Native.Nat.{_+_, _≤_, _<_};
 ghost use lib.IntN.{pos};
 ghost use lib.ListN.{length, getD, drop};
+ghost use Rattle.text.specs.Letters as letters;
 ghost use Rattle.emath.specs.Steps.{tick, Edge};
 ghost use Rattle.layout.specs.Steps.{WholeRect};
 ghost use Rattle.sheet.specs.Ticks.{ticks, inTicks};
@@ -28,7 +29,7 @@ fn put_line(out: &mut [u8], at: usize, letter: u8, numbers: &[i32]) -> usize
 // X: the refusal's number, and the record's.
 pub fn put_refusal(out: &mut [u8], number: u8, record: usize) -> usize
     requires { ⌜ «record» ≤ 600 ⌝ }
-    ensures { λ r. ⌜ (record { at = r; out = now (out .exit) } ≡ putLine 88 (pos number ∷ pos «record» ∷ []) (record { at = 0; out = now (out .entry) })) × (number < 256) ⌝ }
+    ensures { λ r. ⌜ (record { at = r; out = now (out .exit) } ≡ putLine letters.X (pos number ∷ pos «record» ∷ []) (record { at = 0; out = now (out .entry) })) × (number < 256) ⌝ }
 {
     let numbers = [number as i32, record as i32];
     put_line(out, 0, b'X', &numbers)
@@ -112,7 +113,7 @@ pub fn put_widgets(out: &mut [u8], text: &[u8], cells: &[i32]) -> usize
 // P: the plate's edges.
 pub fn put_plate(out: &mut [u8], at: usize, plate: Rect) -> usize
     requires { ⌜ WholeRect tick plate ⌝ }
-    ensures { λ r. ⌜ record { at = r; out = now (out .exit) } ≡ putLine 80 (edges (inTicks tick plate)) (record { at = at; out = now (out .entry) }) ⌝ }
+    ensures { λ r. ⌜ record { at = r; out = now (out .exit) } ≡ putLine letters.P (edges (inTicks tick plate)) (record { at = at; out = now (out .entry) }) ⌝ }
 {
     let numbers = [
         tick(plate.left),

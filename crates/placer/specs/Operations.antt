@@ -3,6 +3,7 @@
 use Prim.Native.Nat.{ℕ}
 use mathlib.Core.List.{[], _∷_}
 use lib.Ieee.{Float}
+use Rattle.emath.specs.Numbers as number
 use Rattle.emath.specs.Refusals.{when, least, orElse, lengthFault, extentFault, pairFault, sizeFault, rectFault, outside}
 use Rattle.layout.specs.Refusals.{cursorFault, posAnswer, sizeAnswer}
 use Rattle.layout.specs.Operations.{placed, framed}
@@ -57,7 +58,7 @@ checkedJustifyAndAlign k p r s = placed (least (placerFault p ∷ rectFault r �
 
 -- 7: "S in a grid", also by 0
 unfoldable pub checkedAdvanceCursor : Placer → Float → PlacerAnswer
-checkedAdvanceCursor p a = changed (least (placerFault p ∷ lengthFault a ∷ when (p .«has_grid») 7 ∷ [])) p (advanceCursor p a)
+checkedAdvanceCursor p a = changed (least (placerFault p ∷ lengthFault a ∷ when (p .«has_grid») number.notInGrid ∷ [])) p (advanceCursor p a)
 
 unfoldable pub checkedAdvanceAfterRects : Placer → Rect → Rect → Vec2 → PlacerAnswer
 checkedAdvanceAfterRects p f w sp =

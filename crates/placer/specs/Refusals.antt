@@ -3,6 +3,7 @@ use Prim.Native.Nat.{ℕ}
 use mathlib.Core.Bool.{false, cond, _&&_}
 use mathlib.Core.List.{[], _∷_}
 use lib.Dec.{eqb, leb}
+use Rattle.emath.specs.Numbers as number
 use Rattle.emath.specs.Refusals.{when, least, orElse, outside}
 use Rattle.layout.specs.Refusals.{regionFault, zeroRegion}
 use Rattle.grid.specs.Grids.{emptyGrid}
@@ -20,10 +21,10 @@ placerFault p = least (regionFault (p .layout .«main_dir») (p .region) ∷ gri
 
 -- 8: "in a grid, an advance (so a W) at column 32 or row 128; an end of row at row 128"
 unfoldable pub advanceFault : Placer → ℕ
-advanceFault p = least (when (p .«has_grid» && leb 32 (p .grid .col)) 8 ∷ when (p .«has_grid» && leb 128 (p .grid .row)) 8 ∷ [])
+advanceFault p = least (when (p .«has_grid» && leb 32 (p .grid .col)) number.gridFull ∷ when (p .«has_grid» && leb 128 (p .grid .row)) number.gridFull ∷ [])
 
 unfoldable pub endRowFault : Placer → ℕ
-endRowFault p = when (p .«has_grid» && leb 128 (p .grid .row)) 8
+endRowFault p = when (p .«has_grid» && leb 128 (p .grid .row)) number.gridFull
 
 -- there is no given placer: a refused `new` answers one whose region is all zero
 abbrev pub zeroPlacer : Layout → Placer

@@ -12,6 +12,7 @@ use emath::faults::number_when;
 use emath::faults::or_else;
 use emath::faults::outside_domain;
 use emath::faults::pair_fault;
+use emath::numbers::NOT_IN_GRID;
 use grid::lent;
 use layout::Region;
 use layout::cursors;
@@ -60,7 +61,7 @@ pub fn advance_cursor(placer: BarePlacer, spot: Spot, amount: f32) -> SpotAnswer
 {
     let l = placer.layout;
     let d = l.main_dir;
-    let before = lesser_number(length_fault(amount), number_when(placer.has_grid, 7));
+    let before = lesser_number(length_fault(amount), number_when(placer.has_grid, NOT_IN_GRID));
     settled(
         placer,
         spot,

@@ -5,6 +5,7 @@ use emath::faults::lesser_number;
 use emath::faults::number_when;
 use emath::faults::or_else;
 use emath::faults::outside_domain;
+use emath::numbers::GRID_FULL;
 use grid::MAX_COLS;
 use grid::MAX_ROWS;
 use grid::faults::direction_fault;
@@ -17,6 +18,7 @@ ghost use mathlib.Core.Path.{_≡_};
 ghost use mathlib.Core.Bool.{_&&_};
 ghost use mathlib.Core.List.{[], _∷_};
 ghost use lib.Dec.{leb};
+ghost use Rattle.emath.specs.Numbers as number;
 ghost use Rattle.emath.specs.Refusals.{when, least};
 ghost use Rattle.placer.specs.Refusals.{gridPart, placerFault, advanceFault, endRowFault, zeroPlacer, placerAnswer, changed};
 
@@ -42,18 +44,18 @@ pub fn placer_fault(placer: Placer) -> u8
 
 // No room for a cell, or for a row.
 pub fn cell_fault(has_grid: bool, col: usize, row: usize) -> u8
-    ensures { λ n. ⌜ n ≡ least (when («has_grid» && leb 32 col) 8 ∷ when («has_grid» && leb 128 row) 8 ∷ []) ⌝ }
+    ensures { λ n. ⌜ n ≡ least (when («has_grid» && leb 32 col) number.gridFull ∷ when («has_grid» && leb 128 row) number.gridFull ∷ []) ⌝ }
 {
     lesser_number(
-        number_when(has_grid & (MAX_COLS <= col), 8),
+        number_when(has_grid & (MAX_COLS <= col), GRID_FULL),
         row_fault(has_grid, row),
     )
 }
 
 pub fn row_fault(has_grid: bool, row: usize) -> u8
-    ensures { λ n. ⌜ n ≡ when («has_grid» && leb 128 row) 8 ⌝ }
+    ensures { λ n. ⌜ n ≡ when («has_grid» && leb 128 row) number.gridFull ⌝ }
 {
-    number_when(has_grid & (MAX_ROWS <= row), 8)
+    number_when(has_grid & (MAX_ROWS <= row), GRID_FULL)
 }
 
 pub fn advance_fault(placer: Placer) -> u8

@@ -19,6 +19,7 @@ use emath::faults::outside_domain;
 use emath::faults::pair_fault;
 use emath::faults::rect_fault;
 use emath::faults::size_fault;
+use emath::numbers::NOT_IN_GRID;
 use grid::GridLayout;
 use grid::SavedAnswer;
 use grid::faults::direction_fault;
@@ -139,7 +140,7 @@ impl Placer {
         ensures { λ a. ⌜ a ≡ checkedAdvanceCursor self amount ⌝ }
     {
         let new = rules::advance_cursor(self, amount);
-        let rest = lesser_number(length_fault(amount), number_when(self.has_grid, 7));
+        let rest = lesser_number(length_fault(amount), number_when(self.has_grid, NOT_IN_GRID));
         changed_placer(lesser_number(placer_fault(self), rest), self, new)
     }
 

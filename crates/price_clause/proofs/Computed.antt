@@ -35,7 +35,6 @@ use Rattle.emath.specs.Steps.{val}
 use Rattle.grid.specs.Entries.{zeros}
 use Rattle.grid.specs.Memories.{emptyMemory, heights}
 use Rattle.grid.specs.declared.Memory.{Memory}
-use Rattle.text.specs.Lines.{line}
 use Rattle.sheet.specs.Pass.{Cell, Outcome, pass}
 use Rattle.sheet.specs.Passes.{passes}
 use Rattle.sheet.specs.Texts.{sheetIn}
@@ -43,34 +42,35 @@ use Rattle.price_clause.specs.Sheets.{GrownSheet, Grown, Strip, NoNegati
 use Rattle.sheet.specs.Ticks.{ticks, inTicks, width, height}
 use Rattle.price_clause.specs.PriceClause.{NoLess}
 use Rattle.price_clause.specs.Cases as cases
-use Rattle.price_clause.specs.Cases.{Case, table, allHold, H, G, W, E}
+use Rattle.price_clause.specs.Cases.{Case, heading, grid, table, allHold}
+use Rattle.records.specs.Writers.{H, W, E}
 use Rattle.price_clause.proofs.PriceClause.{price-clause}
 use Rattle.price_clause.proofs.CaseTests.{found-as-expected}
 
 -- ---- the sheets
 abbrev pub strip : ℤ → ℤ → List ℕ
-strip w h = H (pos 0) (pos 0) (pos 1) (pos 6400) (pos 3200) (pos 256) (pos 128) ++ (W w (pos 320) ++ W (pos 320) h)
+strip w h = heading (pos 0) (pos 0) (pos 1) (pos 6400) (pos 3200) (pos 256) (pos 128) ++ (W w (pos 320) ++ W (pos 320) h)
 
-abbrev pub grid : ℤ → ℤ → List ℕ
-grid w h = H (pos 0) (pos 0) (pos 1) (pos 6400) (pos 3200) (pos 256) (pos 128) ++ (G (pos 320) (pos 160) ++ (W w (pos 160) ++ (W (pos 100) h ++ (E ++ W (pos 200) (pos 50)))))
+abbrev pub cells : ℤ → ℤ → List ℕ
+cells w h = heading (pos 0) (pos 0) (pos 1) (pos 6400) (pos 3200) (pos 256) (pos 128) ++ (grid (pos 320) (pos 160) ++ (W w (pos 160) ++ (W (pos 100) h ++ (E ++ W (pos 200) (pos 50)))))
 
 -- three controls of no size, 10 ticks before each other, but for the second one's width
 abbrev pub overlapping : ℤ → List ℕ
-overlapping w = H (pos 0) (pos 0) (pos 0) (pos 6400) (pos 3200) (negsuc 9) (pos 0) ++ (W (pos 0) (pos 0) ++ (W w (pos 0) ++ W (pos 0) (pos 0)))
+overlapping w = heading (pos 0) (pos 0) (pos 0) (pos 6400) (pos 3200) (negsuc 9) (pos 0) ++ (W (pos 0) (pos 0) ++ (W w (pos 0) ++ W (pos 0) (pos 0)))
 
 -- three rows of no height, 10 ticks before each other, but for the second one's height
 abbrev pub overlappingRows : ℤ → List ℕ
-overlappingRows h = H (pos 0) (pos 0) (pos 0) (pos 6400) (pos 3200) (pos 0) (negsuc 9) ++ (G (pos 0) (pos 0) ++ (W (pos 0) (pos 0) ++ (E ++ (W (pos 0) h ++ (E ++ W (pos 0) (pos 0))))))
+overlappingRows h = heading (pos 0) (pos 0) (pos 0) (pos 6400) (pos 3200) (pos 0) (negsuc 9) ++ (grid (pos 0) (pos 0) ++ (W (pos 0) (pos 0) ++ (E ++ (W (pos 0) h ++ (E ++ W (pos 0) (pos 0))))))
 
 abbrev pub wrapped : ℤ → List ℕ
-wrapped w = H (pos 0) (pos 1) (pos 0) (pos 640) (pos 3200) (pos 0) (pos 0) ++ (W (pos 320) (pos 100) ++ W w (pos 100))
+wrapped w = heading (pos 0) (pos 1) (pos 0) (pos 640) (pos 3200) (pos 0) (pos 0) ++ (W (pos 320) (pos 100) ++ W w (pos 100))
 
 abbrev pub rightToLeft : ℤ → List ℕ
-rightToLeft w = H (pos 1) (pos 0) (pos 0) (pos 6400) (pos 3200) (pos 0) (pos 0) ++ W w (pos 10)
+rightToLeft w = heading (pos 1) (pos 0) (pos 0) (pos 6400) (pos 3200) (pos 0) (pos 0) ++ W w (pos 10)
 
 -- one control of 5 by 5 in a row that starts 6 ticks above zero; and a memory of one row of 10 ticks
 abbrev pub acrossZero : List ℕ
-acrossZero = line 72 (pos 0 ∷ pos 0 ∷ pos 0 ∷ pos 0 ∷ pos 0 ∷ pos 0 ∷ pos 0 ∷ negsuc 5 ∷ pos 6400 ∷ pos 3200 ∷ pos 0 ∷ pos 0 ∷ []) ++ (G (pos 0) (pos 0) ++ W (pos 5) (pos 5))
+acrossZero = H (pos 0 ∷ pos 0 ∷ pos 0 ∷ pos 0 ∷ pos 0 ∷ pos 0 ∷ []) (pos 0 ∷ negsuc 5 ∷ pos 6400 ∷ pos 3200 ∷ []) (pos 0 ∷ pos 0 ∷ []) ++ (grid (pos 0) (pos 0) ++ W (pos 5) (pos 5))
 
 abbrev pub tenTall : Memory
 tenTall = record { «col_widths» = zeros 32; cols = 0; «row_heights» = val 5 (pos 10) ∷ zeros 127; rows = 1 }
@@ -118,9 +118,9 @@ pub record Computed : Type 0 where
   pub strips : Pair (strip (pos 640) (pos 480)) (strip (pos 700) (pos 500))
   pub is-strip : Strip (sheetIn (strip (pos 640) (pos 480)))
   pub strip-spacing : NoNegativeSpacing (sheetIn (strip (pos 640) (pos 480)))
-  pub grids : GridPair (grid (pos 640) (pos 161)) (grid (pos 650) (pos 170))
-  pub is-grid : sheetIn (grid (pos 640) (pos 161)) .«has_grid» ≡ true
-  pub grid-spacing : NoNegativeSpacing (sheetIn (grid (pos 640) (pos 161)))
+  pub grids : GridPair (cells (pos 640) (pos 161)) (cells (pos 650) (pos 170))
+  pub is-grid : sheetIn (cells (pos 640) (pos 161)) .«has_grid» ≡ true
+  pub grid-spacing : NoNegativeSpacing (sheetIn (cells (pos 640) (pos 161)))
   -- negative spacing: the plate of a strip gets narrower, 20 ticks to 15, and a grid's less tall
   pub strip-overlaps : Pair (overlapping (pos 0)) (overlapping (pos 5))
   pub strip-narrower : (width (inTicks 5 (laid (overlapping (pos 0)) .plate)) ≡ pos 20) × (width (inTicks 5 (laid (overlapping (pos 5)) .plate)) ≡ pos 15)
@@ -166,7 +166,7 @@ strip-clause =
     price-clause .strips (sheetIn (strip (pos 640) (pos 480))) (sheetIn (strip (pos 700) (pos 500))) (record { text = strip (pos 640) (pos 480); is = refl }) (record { text = strip (pos 700) (pos 500); is = refl })
     (computed .strips .grown) (computed .is-strip) (computed .strip-spacing) false false emptyMemory emptyMemory true true (computed .strips .first) (computed .strips .second)
 
-pub grid-clause : NoLess 5 (settled (grid (pos 640) (pos 161))) (settled (grid (pos 650) (pos 170)))
+pub grid-clause : NoLess 5 (settled (cells (pos 640) (pos 161))) (settled (cells (pos 650) (pos 170)))
 grid-clause =
-    price-clause .grids (sheetIn (grid (pos 640) (pos 161))) (sheetIn (grid (pos 650) (pos 170))) (record { text = grid (pos 640) (pos 161); is = refl }) (record { text = grid (pos 650) (pos 170); is = refl })
+    price-clause .grids (sheetIn (cells (pos 640) (pos 161))) (sheetIn (cells (pos 650) (pos 170))) (record { text = cells (pos 640) (pos 161); is = refl }) (record { text = cells (pos 650) (pos 170); is = refl })
     (computed .grids .grown) (computed .is-grid) (computed .grid-spacing) emptyMemory emptyMemory (computed .grids .passes-of-first .0) (computed .grids .passes-of-first .1) (computed .grids .passes-of-second .0) (computed .grids .passes-of-second .1)

@@ -4,12 +4,12 @@ use mathlib.Core.Bool.{Bool, true, false, _&&_}
 use lib.Dec.{eqb}
 use mathlib.Core.List.{List, [], _∷_, _++_, map}
 use lib.IntN.{ℤ, pos, negsuc}
-use lib.ListN.{replicate}
+use Rattle.emath.specs.Numbers as number
 use Rattle.emath.specs.Rectangles.{roundUi, alignOn}
 use Rattle.emath.specs.Steps.{tick, val}
 use Rattle.emath.specs.declared.Align.the-variants.{Center}
 use Rattle.grid.specs.Memories.{emptyMemory, widths, heights}
-use Rattle.text.specs.Lines.{line, texts}
+use Rattle.records.specs.Writers.{H, G, W, E}
 use Rattle.sheet.specs.Pass.{Cell, Outcome}
 use Rattle.sheet.specs.Passes.{passes}
 use Rattle.sheet.specs.Texts.{sheetIn}
@@ -45,20 +45,13 @@ sameAll (x ∷ xs) [] = false
 sameAll (x ∷ xs) (y ∷ ys) = sameZ x y && sameAll xs ys
 
 -- ---- records as text
-abbrev pub W : ℤ → ℤ → List ℕ
-W w h = line 87 (w ∷ h ∷ [])
+-- H: direction, wrap and main align, no justify, cross align 0, a max_rect from 0, the spacings; and G with start row 0
+abbrev pub heading : ℤ → ℤ → ℤ → ℤ → ℤ → ℤ → ℤ → List ℕ
+heading direction wrap align right bottom across down =
+    H (direction ∷ wrap ∷ align ∷ pos 0 ∷ pos 0 ∷ pos 0 ∷ []) (pos 0 ∷ pos 0 ∷ right ∷ bottom ∷ []) (across ∷ down ∷ [])
 
-abbrev pub E : List ℕ
-E = line 69 []
-
--- H: direction, wrap and main align, no justify, cross align 0, a max_rect from 0, the spacings
-abbrev pub H : ℤ → ℤ → ℤ → ℤ → ℤ → ℤ → ℤ → List ℕ
-H direction wrap align right bottom across down =
-    line 72 (direction ∷ wrap ∷ align ∷ pos 0 ∷ pos 0 ∷ pos 0 ∷ pos 0 ∷ pos 0 ∷ right ∷ bottom ∷ across ∷ down ∷ [])
-
--- G: the minimum cell; maximum and columns blank; start row 0
-abbrev pub G : ℤ → ℤ → List ℕ
-G w h = 71 ∷ (texts (w ∷ h ∷ []) ++ (replicate 24 32 ++ (texts (pos 0 ∷ []) ++ (10 ∷ []))))
+abbrev pub grid : ℤ → ℤ → List ℕ
+grid width height = G width height (pos 0)
 
 unfoldable pub times : ℕ → List ℕ → List ℕ
 times zero s = []
@@ -91,7 +84,7 @@ refused number at = (pos number ∷ pos at ∷ [])
 -- "the strip above"
 abbrev pub the-strip : Case
 the-strip = record {
-  found = pass-of (H (pos 0) (pos 0) (pos 1) (pos 6400) (pos 3200) (pos 256) (pos 128) ++ (W (pos 640) (pos 320) ++ W (pos 320) (pos 480))) 0;
+  found = pass-of (heading (pos 0) (pos 0) (pos 1) (pos 6400) (pos 3200) (pos 256) (pos 128) ++ (W (pos 640) (pos 320) ++ W (pos 320) (pos 480))) 0;
   expected = without-grid (box (pos 0) (pos 0) (pos 640) (pos 320) ∷ box (pos 896) (pos 0) (pos 1216) (pos 480) ∷ []) (box (pos 0) (pos 0) (pos 1216) (pos 480));
 }
 
@@ -100,7 +93,7 @@ the-strip = record {
 abbrev pub the-grid : Case
 the-grid = record {
   found = pass-of
-      (H (pos 0) (pos 0) (pos 1) (pos 6400) (pos 3200) (pos 256) (pos 128) ++ (G (pos 320) (pos 160) ++ (W (pos 640) (pos 160) ++ (W (pos 100) (pos 161) ++ (E ++ W (pos 200) (pos 50)))))) 1;
+      (heading (pos 0) (pos 0) (pos 1) (pos 6400) (pos 3200) (pos 256) (pos 128) ++ (grid (pos 320) (pos 160) ++ (W (pos 640) (pos 160) ++ (W (pos 100) (pos 161) ++ (E ++ W (pos 200) (pos 50)))))) 1;
   expected = pos 0 ∷ pos 0 ∷ (edges (box (pos 0) (pos 0) (pos 1216) (pos 449))
       ++ (edges (box (pos 0) (pos 0) (pos 640) (pos 161)) ++ (edges (box (pos 0) (pos 1) (pos 640) (pos 161))
       ++ (edges (box (pos 896) (pos 0) (pos 1216) (pos 161)) ++ (edges (box (pos 896) (pos 0) (pos 996) (pos 161))
@@ -125,42 +118,42 @@ minus-half-a-tick = record { found = (ticks tick (roundUi tick (val 6 (negsuc 0)
 -- "wrap, top-aligned, max_rect 0 0 640 3200, spacing 0, W 320 100 twice: second frame 320 0 640 100"
 abbrev pub twice : Case
 twice = record {
-  found = pass-of (H (pos 0) (pos 1) (pos 0) (pos 640) (pos 3200) (pos 0) (pos 0) ++ (W (pos 320) (pos 100) ++ W (pos 320) (pos 100))) 0;
+  found = pass-of (heading (pos 0) (pos 1) (pos 0) (pos 640) (pos 3200) (pos 0) (pos 0) ++ (W (pos 320) (pos 100) ++ W (pos 320) (pos 100))) 0;
   expected = without-grid (box (pos 0) (pos 0) (pos 320) (pos 100) ∷ box (pos 320) (pos 0) (pos 640) (pos 100) ∷ []) (box (pos 0) (pos 0) (pos 640) (pos 100));
 }
 
 -- "second W 321 100: 0 100 321 200"
 abbrev pub one-more : Case
 one-more = record {
-  found = pass-of (H (pos 0) (pos 1) (pos 0) (pos 640) (pos 3200) (pos 0) (pos 0) ++ (W (pos 320) (pos 100) ++ W (pos 321) (pos 100))) 0;
+  found = pass-of (heading (pos 0) (pos 1) (pos 0) (pos 640) (pos 3200) (pos 0) (pos 0) ++ (W (pos 320) (pos 100) ++ W (pos 321) (pos 100))) 0;
   expected = without-grid (box (pos 0) (pos 0) (pos 320) (pos 100) ∷ box (pos 0) (pos 100) (pos 321) (pos 200) ∷ []) (box (pos 0) (pos 0) (pos 321) (pos 200));
 }
 
 -- "W 2097152 0 at left 0 with spacing 0 passes"
 abbrev pub at-the-limit : Case
 at-the-limit = record {
-  found = pass-of (H (pos 0) (pos 0) (pos 0) (pos 0) (pos 0) (pos 0) (pos 0) ++ W (pos 2097152) (pos 0)) 0;
+  found = pass-of (heading (pos 0) (pos 0) (pos 0) (pos 0) (pos 0) (pos 0) (pos 0) ++ W (pos 2097152) (pos 0)) 0;
   expected = without-grid (box (pos 0) (pos 0) (pos 2097152) (pos 0) ∷ []) (box (pos 0) (pos 0) (pos 2097152) (pos 0));
 }
 
 -- "with spacing 1 gives 9"
 abbrev pub beyond-the-limit : Case
 beyond-the-limit = record {
-  found = refusal-of (H (pos 0) (pos 0) (pos 0) (pos 0) (pos 0) (pos 1) (pos 0) ++ W (pos 2097152) (pos 0));
-  expected = refused 9 2;
+  found = refusal-of (heading (pos 0) (pos 0) (pos 0) (pos 0) (pos 0) (pos 1) (pos 0) ++ W (pos 2097152) (pos 0));
+  expected = refused number.outside 2;
 }
 
 -- "the examples of 7 and 8": "G after H direction 1", "33rd W in a row"
 abbrev pub grid-from-the-right : Case
 grid-from-the-right = record {
-  found = refusal-of (H (pos 1) (pos 0) (pos 0) (pos 0) (pos 0) (pos 0) (pos 0) ++ G (pos 0) (pos 0));
-  expected = refused 7 2;
+  found = refusal-of (heading (pos 1) (pos 0) (pos 0) (pos 0) (pos 0) (pos 0) (pos 0) ++ grid (pos 0) (pos 0));
+  expected = refused number.notInGrid 2;
 }
 
 abbrev pub one-cell-too-many : Case
 one-cell-too-many = record {
-  found = refusal-of (H (pos 0) (pos 0) (pos 0) (pos 0) (pos 0) (pos 0) (pos 0) ++ (G (pos 0) (pos 0) ++ times 33 (W (pos 0) (pos 0))));
-  expected = refused 8 35;
+  found = refusal-of (heading (pos 0) (pos 0) (pos 0) (pos 0) (pos 0) (pos 0) (pos 0) ++ (grid (pos 0) (pos 0) ++ times 33 (W (pos 0) (pos 0))));
+  expected = refused number.gridFull 35;
 }
 
 unfoldable pub allHold : List Case → Bool

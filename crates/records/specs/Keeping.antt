@@ -4,6 +4,7 @@ use mathlib.Core.Path.{_≡_}
 use mathlib.Core.List.{List, [], _∷_}
 use lib.ListN.{getD, set}
 use lib.Ieee.{Float, nan}
+use Rattle.text.specs.Letters as letters
 use Rattle.records.specs.declared.Step.{Step}
 use Rattle.records.specs.declared.Step.the-variants.{Widget, Space, RowHeight, MaxWidth, MaxHeight, MinWidth, MinHeight, RowEnd}
 use Rattle.records.specs.declared.Record.{Record}
@@ -30,7 +31,7 @@ stored ss n Wrong = ss
 
 -- record n, at the front of the text, says what is kept of it, where it is a W
 abbrev pub Says : List ℕ → List Float → ℕ → Type 0
-Says s ss n = letter s ≡ 87 → recordOf s ≡ Steps (Widget (getD ss n nan) (getD ss (513 + n) nan))
+Says s ss n = letter s ≡ letters.W → recordOf s ≡ Steps (Widget (getD ss n nan) (getD ss (513 + n) nan))
 
 -- so does each of at most `left` records from there on
 unfoldable pub Kept : ℕ → List ℕ → List Float → ℕ → Type 0

@@ -2,4 +2,5 @@
 pub mod Parts
 pub mod Records
 pub mod Sheets
+pub mod Writers
 pub mod Keeping

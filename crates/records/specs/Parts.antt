@@ -11,6 +11,7 @@ use lib.Ieee.{Float, inf}
 use Rattle.emath.specs.Rectangles.{zeroF}
 use Rattle.emath.specs.Steps.{tick, val}
 use Rattle.text.specs.Fields.{fieldAt}
+use Rattle.text.specs.Letters as letters
 use Rattle.text.specs.declared.Field.{Field}
 use Rattle.text.specs.declared.Field.the-variants as field
 use Rattle.records.specs.declared.Length.{Length}
@@ -22,7 +23,7 @@ letter s = getD s 0 0
 
 -- "then one LF", after n fields
 unfoldable pub ends : List ℕ → ℕ → Bool
-ends s n = eqb (getD s (1 + 8 * n) 0) 10
+ends s n = eqb (getD s (1 + 8 * n) 0) letters.LF
 
 -- ---- "Lengths are in ticks, magnitude at most 2,097,152."
 -- z ticks in points: z / 32

@@ -14,6 +14,7 @@ use Rattle.emath.specs.declared.Rect.{Rect}
 use Rattle.layout.specs.declared.Direction.{Direction}
 use Rattle.layout.specs.declared.Direction.the-variants.{LeftToRight, RightToLeft, TopDown, BottomUp}
 use Rattle.layout.specs.declared.Layout.{Layout}
+use Rattle.text.specs.Letters as letters
 use Rattle.text.specs.declared.Field.{Field}
 use Rattle.text.specs.declared.Field.the-variants.{Blank, Number, Wrong as WrongField}
 use Rattle.records.specs.declared.GridOptions.{GridOptions}
@@ -114,21 +115,21 @@ single s step = stepRecord s 1 (isLength (lengthIn s 0)) (step (lengthValue (len
 -- "S, R, L, K, N, T take one field"
 unfoldable pub singleRecord : List ℕ → ℕ → Record
 singleRecord s b =
-    pick (eqb b 83) (single s (λ x. Space x))
-    (pick (eqb b 82) (single s (λ x. RowHeight x))
-    (pick (eqb b 76) (single s (λ x. MaxWidth x))
-    (pick (eqb b 75) (single s (λ x. MaxHeight x))
-    (pick (eqb b 78) (single s (λ x. MinWidth x))
-    (pick (eqb b 84) (single s (λ x. MinHeight x))
+    pick (eqb b letters.S) (single s (λ x. Space x))
+    (pick (eqb b letters.R) (single s (λ x. RowHeight x))
+    (pick (eqb b letters.L) (single s (λ x. MaxWidth x))
+    (pick (eqb b letters.K) (single s (λ x. MaxHeight x))
+    (pick (eqb b letters.N) (single s (λ x. MinWidth x))
+    (pick (eqb b letters.T) (single s (λ x. MinHeight x))
     Wrong)))))
 
 -- the record at the front of a text: H, G, W, "E none", or a letter of one field
 unfoldable pub recordOf : List ℕ → Record
 recordOf s =
-    pick (eqb (letter s) 72) (headingRecord s)
-    (pick (eqb (letter s) 71) (gridRecord s)
-    (pick (eqb (letter s) 87) (widgetRecord s)
-    (pick (eqb (letter s) 69) (stepRecord s 0 true RowEnd)
+    pick (eqb (letter s) letters.H) (headingRecord s)
+    (pick (eqb (letter s) letters.G) (gridRecord s)
+    (pick (eqb (letter s) letters.W) (widgetRecord s)
+    (pick (eqb (letter s) letters.E) (stepRecord s 0 true RowEnd)
     (singleRecord s (letter s)))))
 
 unfoldable pub recordAt : List ℕ → ℕ → Record
@@ -137,8 +138,8 @@ recordAt s at = recordOf (drop at s)
 -- ---- how long a record is: the letter, eight columns for each field, the LF
 unfoldable pub fieldCount : ℕ → ℕ
 fieldCount b =
-    of (eqb b 72) 12 (of (eqb b 71) 6 (of (eqb b 87) 2 (of (eqb b 83) 1 (of (eqb b 82) 1 (of (eqb b 76) 1
-    (of (eqb b 75) 1 (of (eqb b 78) 1 (of (eqb b 84) 1 0))))))))
+    of (eqb b letters.H) 12 (of (eqb b letters.G) 6 (of (eqb b letters.W) 2 (of (eqb b letters.S) 1 (of (eqb b letters.R) 1 (of (eqb b letters.L) 1
+    (of (eqb b letters.K) 1 (of (eqb b letters.N) 1 (of (eqb b letters.T) 1 0))))))))
   where
     of : Bool → ℕ → ℕ → ℕ
     of true a b = a

@@ -4,6 +4,7 @@ use mathlib.Core.List.{List, [], _∷_}
 use mathlib.Core.Bool.{Bool, true, false}
 use lib.ListN.{length}
 use lib.Dec.{ltb, eqb}
+use Rattle.emath.specs.Numbers as number
 use Rattle.records.specs.declared.Step.{Step}
 use Rattle.records.specs.declared.Step.the-variants.{Widget, Space, RowHeight, MaxWidth, MaxHeight, MinWidth, MinHeight, RowEnd}
 use Rattle.records.specs.declared.Record.{Record}
@@ -78,14 +79,14 @@ pick false a b = b
 
 -- k records, w of them W, with so many places
 unfoldable pub sized : ℕ → ℕ → ℕ → Checked
-sized k w room = pick (ltb room (8 * w)) (Refused 3 1) (Accepted k w)
+sized k w room = pick (ltb room (8 * w)) (Refused number.noRoom 1) (Accepted k w)
 
 -- 1: "a record is malformed, misplaced or out of field range, among the first 512; an empty sheet, at record 1". 2: "any byte after the
 -- 512th record, named 513". 3: "slice shorter than 8 per W", at record 1.
 unfoldable pub checked : List ℕ → ℕ → Checked
 checked s room =
-    pick (isEmpty s) (Refused 1 1)
-    (pick (ltb 0 (misplaced 1 (records s))) (Refused 1 (misplaced 1 (records s)))
+    pick (isEmpty s) (Refused number.malformed 1)
+    (pick (ltb 0 (misplaced 1 (records s))) (Refused number.malformed (misplaced 1 (records s)))
     (pick (isEmpty (after 512 s))
     (sized (length (records s)) (widgets (records s)) room)
-    (Refused 2 513)))
+    (Refused number.tooLong 513)))

@@ -7,6 +7,9 @@ use crate::Step;
 use crate::kept::store;
 use crate::records::next_record;
 use crate::records::read_record;
+use emath::numbers::MALFORMED;
+use emath::numbers::NO_ROOM;
+use emath::numbers::TOO_LONG;
 ghost use mathlib.Core.Path.{_≡_};
 ghost use Prim.Native.Nat.{ℕ, _≤_};
 ghost use lib.ListN.{length};
@@ -58,7 +61,7 @@ fn ended(k: usize, w: usize, room: usize) -> Checked
     ensures { λ r. ⌜ r ≡ sized k w room ⌝ }
 {
     if room < 8 * w {
-        return Checked::Refused(3, 1);
+        return Checked::Refused(NO_ROOM, 1);
     }
     Checked::Accepted(k, w)
 }
@@ -70,7 +73,7 @@ pub fn check_keeping(text: &[u8], room: usize, sizes: &mut [f32]) -> Checked
 {
     let n = text.len();
     if n == 0 {
-        return Checked::Refused(1, 1);
+        return Checked::Refused(MALFORMED, 1);
     }
     let mut at: usize = 0;
     let mut k: usize = 0;
@@ -88,11 +91,11 @@ pub fn check_keeping(text: &[u8], room: usize, sizes: &mut [f32]) -> Checked
             k += 1;
             left -= 1;
         } else {
-            return Checked::Refused(1, k + 1);
+            return Checked::Refused(MALFORMED, k + 1);
         }
     }
     if at < n {
-        return Checked::Refused(2, 513);
+        return Checked::Refused(TOO_LONG, 513);
     }
     ended(k, w, room)
 }

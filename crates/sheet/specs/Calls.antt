@@ -4,6 +4,7 @@ use mathlib.Core.Path.{_≡_}
 use mathlib.Core.List.{List, [], _∷_}
 use lib.ListN.{length}
 use lib.Ieee.{Float}
+use Rattle.emath.specs.Numbers as number
 use Rattle.emath.specs.Steps.{tick}
 use Rattle.emath.specs.Refusals.{least, sizeFault, pairFault, edgesFault, outside, frameFault}
 use Rattle.emath.specs.declared.Rect.{Rect}
@@ -73,7 +74,7 @@ stepMoved p sp RowEnd = calledBy (checkedEndRow p sp)
 
 -- a sheet that was checked has nothing but steps here
 unfoldable pub recordMoved : Placer → Vec2 → Record → Moved
-recordMoved p sp (record-of.Heading h) = calledBy (record { number = 1; placer = p })
-recordMoved p sp (record-of.Grid g) = calledBy (record { number = 1; placer = p })
+recordMoved p sp (record-of.Heading h) = calledBy (record { number = number.malformed; placer = p })
+recordMoved p sp (record-of.Grid g) = calledBy (record { number = number.malformed; placer = p })
 recordMoved p sp (record-of.Step st) = stepMoved p sp st
-recordMoved p sp record-of.Wrong = calledBy (record { number = 1; placer = p })
+recordMoved p sp record-of.Wrong = calledBy (record { number = number.malformed; placer = p })

@@ -7,6 +7,7 @@ use lib.IntN.{ℤ}
 use lib.Dec.{eqb}
 use lib.ListN.{length, drop}
 use lib.Ieee.{Float}
+use Rattle.emath.specs.Numbers as number
 use Rattle.emath.specs.Steps.{tick}
 use Rattle.emath.specs.declared.Vec2.{Vec2}
 use Rattle.grid.specs.declared.Memory.{Memory}
@@ -85,9 +86,9 @@ fromHeading text h known m sizing out =
 
 unfoldable pub fromRecord : Record → List ℕ → Bool → Memory → Bool → List ℤ → Answer
 fromRecord (record-of.Heading h) text known m sizing out = fromHeading text h known m sizing out
-fromRecord (record-of.Grid g) text known m sizing out = turnedBack 1 1 m out
-fromRecord (record-of.Step st) text known m sizing out = turnedBack 1 1 m out
-fromRecord record-of.Wrong text known m sizing out = turnedBack 1 1 m out
+fromRecord (record-of.Grid g) text known m sizing out = turnedBack number.malformed 1 m out
+fromRecord (record-of.Step st) text known m sizing out = turnedBack number.malformed 1 m out
+fromRecord record-of.Wrong text known m sizing out = turnedBack number.malformed 1 m out
 
 unfoldable pub fromCheck : Checked → List ℕ → Bool → Memory → Bool → List ℤ → Answer
 fromCheck (checked-of.Refused n at) text known m sizing out = turnedBack n at m out

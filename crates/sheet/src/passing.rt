@@ -5,6 +5,7 @@ use crate::outcomes::gridded;
 use crate::outcomes::refused;
 use crate::walk::run;
 use emath::Vec2;
+use emath::numbers::MALFORMED;
 use grid::Memory;
 use grid::memories::heights_of;
 use grid::memories::widths_of;
@@ -217,9 +218,9 @@ fn from_record(
 {
     match r {
         Record::Heading(heading) => from_heading(heading, text, sizes, known, memory, sizing, out),
-        Record::Grid(_) => refused(1, 1, memory),
-        Record::Step(_) => refused(1, 1, memory),
-        Record::Wrong => refused(1, 1, memory),
+        Record::Grid(_) => refused(MALFORMED, 1, memory),
+        Record::Step(_) => refused(MALFORMED, 1, memory),
+        Record::Wrong => refused(MALFORMED, 1, memory),
     }
 }
 

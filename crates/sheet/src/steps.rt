@@ -9,6 +9,7 @@ use emath::faults::or_else;
 use emath::faults::outside_domain;
 use emath::faults::pair_fault;
 use emath::faults::size_fault;
+use emath::numbers::MALFORMED;
 use placer::BarePlacer;
 use placer::Spot;
 use placer::SpotAnswer;
@@ -163,8 +164,8 @@ pub fn record_moved(
     ensures { λ m. ⌜ movedOf placer m (now («prev_widths» .entry)) (now («prev_heights» .entry)) (now (widths .exit)) (now (heights .exit)) ≡ recordMoved (placerOf placer spot (now («prev_widths» .entry)) (now («prev_heights» .entry)) (now (widths .entry)) (now (heights .entry))) spacing r ⌝ }
 {
     match r {
-        Record::Heading(_) => moved(1, spot),
-        Record::Grid(_) => moved(1, spot),
+        Record::Heading(_) => moved(MALFORMED, spot),
+        Record::Grid(_) => moved(MALFORMED, spot),
         Record::Step(st) => step_moved(
             placer,
             spot,
@@ -175,6 +176,6 @@ pub fn record_moved(
             spacing,
             st,
         ),
-        Record::Wrong => moved(1, spot),
+        Record::Wrong => moved(MALFORMED, spot),
     }
 }

@@ -5,6 +5,7 @@ use mathlib.Core.Bool.{Bool, cond}
 use mathlib.Core.List.{List, _∷_, _++_}
 use lib.IntN.{pos}
 use lib.ListN.{length, getD}
+use Rattle.text.specs.Letters as letters
 use Rattle.emath.specs.Steps.{tick}
 use Rattle.grid.specs.Memories.{widths, heights}
 use Rattle.sheet.specs.Pass.{Cell, Outcome}
@@ -16,7 +17,7 @@ use Rattle.drawing.specs.Pages.{linesFrom, columnsOf, rowsOf}
 -- as many controls are drawn as the pass has cells; fields 1 to 8 of line k are the edges of cell k, its frame's and its widget's, and the
 -- plate's fields the plate's edges, all in ticks; and a grid has as many columns and rows as it remembers
 pub record Shows (grid : Bool) (s : List ℕ) (o : Outcome) : Type 0 where
-  pub controls : linesFrom 512 87 74 s 0 ≡ length (o .cells)
+  pub controls : linesFrom 512 letters.W 74 s 0 ≡ length (o .cells)
   pub cells : (before after : List Cell) (c : Cell) → o .cells ≡ before ++ (c ∷ after) → (i : ℕ) → i < 8 → fieldOf s (74 * length before) (1 + i) ≡ getD (eight c) i (pos 0)
   pub plate : (i : ℕ) → i < 4 → fieldOf s (74 * length (o .cells)) i ≡ getD (edges (inTicks tick (o .plate))) i (pos 0)
   pub columns : columnsOf s (length (o .cells)) ≡ cond grid (length (widths (o .memory))) 0

@@ -6,6 +6,7 @@ use lib.IntN.{ℤ}
 use lib.Dec.{leb}
 use lib.ListN.{length}
 use lib.Seq.{sets}
+use Rattle.text.specs.Letters as letters
 use Rattle.text.specs.Fields.{text, hasText}
 
 -- each number's text, one after the other
@@ -19,7 +20,7 @@ haveTexts (z ∷ zs) = cond (hasText z) (haveTexts zs) false
 
 -- a letter, its numbers, one LF
 unfoldable pub line : ℕ → List ℤ → List ℕ
-line letter zs = letter ∷ (texts zs ++ (10 ∷ []))
+line letter zs = letter ∷ (texts zs ++ (letters.LF ∷ []))
 
 -- whether it was written, and what the slice then holds: only the line's places change, and none where they are not all there or a number
 -- has no text

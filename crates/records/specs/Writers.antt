@@ -1,0 +1,21 @@
+-- A record as text: its letter, its fields and one LF. Lengths are in ticks.
+use mathlib.Core.List.{List, [], _∷_, _++_}
+use Prim.Native.Nat.{ℕ}
+use lib.IntN.{ℤ}
+use lib.ListN.{replicate}
+use Rattle.text.specs.Letters as letters
+use Rattle.text.specs.Lines.{line, texts}
+
+-- six layout fields, max_rect's edges, the spacings
+abbrev pub H : List ℤ → List ℤ → List ℤ → List ℕ
+H layout edges spacing = line letters.H (layout ++ (edges ++ spacing))
+
+-- the minimum cell and the start row; maximum and columns are blank
+abbrev pub G : ℤ → ℤ → ℤ → List ℕ
+G width height row = letters.G ∷ (texts (width ∷ height ∷ []) ++ (replicate 24 32 ++ (texts (row ∷ []) ++ (letters.LF ∷ []))))
+
+abbrev pub W : ℤ → ℤ → List ℕ
+W width height = line letters.W (width ∷ height ∷ [])
+
+abbrev pub E : List ℕ
+E = line letters.E []

@@ -1,0 +1,50 @@
+-- The letters of a sheet's records and of a list's lines, and the byte that ends both. Cited as letters.NAME.
+use Prim.Native.Nat.{ℕ}
+
+-- what comes before the steps
+abbrev pub H : ℕ
+H = 72
+
+abbrev pub G : ℕ
+G = 71
+
+-- the steps
+abbrev pub W : ℕ
+W = 87
+
+abbrev pub S : ℕ
+S = 83
+
+abbrev pub E : ℕ
+E = 69
+
+abbrev pub R : ℕ
+R = 82
+
+abbrev pub L : ℕ
+L = 76
+
+abbrev pub K : ℕ
+K = 75
+
+abbrev pub N : ℕ
+N = 78
+
+abbrev pub T : ℕ
+T = 84
+
+-- lines of a list, beside W: the plate, a column, a row, a refusal
+abbrev pub P : ℕ
+P = 80
+
+abbrev pub C : ℕ
+C = 67
+
+abbrev pub D : ℕ
+D = 68
+
+abbrev pub X : ℕ
+X = 88
+
+abbrev pub LF : ℕ
+LF = 10

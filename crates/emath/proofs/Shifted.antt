@@ -11,7 +11,7 @@ use lib.Ieee.{Float, nan, inf, fin, binary32, up, down, round, add, sub, neg, lt
 use lib.Ieee.Fits.{down-pos, and-l, and-r, round-fits, add-fits}
 use Rattle.emath.specs.Rectangles.{nearUp, roundF, roundUi, roundRect}
 use Rattle.emath.specs.declared.Rect.{Rect}
-use Rattle.emath.specs.Shifting.{shift, backInTicks, backRect}
+use Rattle.emath.specs.Implementation.Shifting.{shift, backInTicks, backRect}
 use Rattle.emath.specs.Steps.{tick, sgn, signed, val}
 use Rattle.emath.proofs.Tests.{or-split, is-yes}
 use Rattle.emath.proofs.Whole.{more, less, diff, within-natAbs}

@@ -4,4 +4,5 @@ pub mod Domain
 pub mod Numbers
 pub mod Refusals
 pub mod Steps
-pub mod Shifting
+-- Not part of the specification.
+pub mod Implementation

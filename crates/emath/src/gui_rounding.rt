@@ -5,7 +5,7 @@ ghost use lib.Dec.{T};
 ghost use lib.IntN.{pos};
 ghost use lib.Ieee.{binary32, lt, fin, add, sub};
 ghost use Rattle.emath.specs.Steps.{tick};
-ghost use Rattle.emath.specs.Shifting.{shift, backInTicks, backRect};
+ghost use Rattle.emath.specs.Implementation.Shifting.{shift, backInTicks, backRect};
 ghost use Rattle.emath.specs.Rectangles.{roundF, roundBy, roundUi, roundRect};
 use crate::Rect;
 use crate::TICKS_PER_POINT;

@@ -26,7 +26,7 @@ use Rattle.sheet.proofs.Passes.{Ended, well, badly, outcome-ends}
 use Rattle.sheet.proofs.Shown.{some-number}
 use Rattle.listing.specs.Lists.{settledFrom, settled}
 use Rattle.embed.specs.Calls.{Handed, handed}
-use Rattle.embed.specs.Handing.{numberOf, recordOf}
+use Rattle.embed.specs.Implementation.Handing.{numberOf, recordOf}
 
 pub record Fit (o : Outcome) : Type 0 where
   pub plate : WholeRect 5 (o .plate)

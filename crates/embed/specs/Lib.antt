@@ -1,4 +1,4 @@
 -- What a reader must believe of this crate: what each call leaves in the caller's memory.
 pub mod Calls
--- How the code puts it there.
-pub mod Handing
+-- Not part of the specification.
+pub mod Implementation

@@ -16,7 +16,7 @@ ghost use Rattle.layout.specs.Steps.{WholeRect};
 ghost use Rattle.sheet.specs.Ticks.{inTicks};
 ghost use Rattle.sheet.specs.Slices.{edges};
 ghost use Rattle.embed.specs.Calls.{memoryOf};
-ghost use Rattle.embed.specs.Handing.{numberOf, recordOf};
+ghost use Rattle.embed.specs.Implementation.Handing.{numberOf, recordOf};
 
 pub(crate) fn memory_of(
     widths: &[f32; 32],

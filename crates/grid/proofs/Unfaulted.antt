@@ -18,7 +18,7 @@ use Rattle.grid.specs.Entries.{entry, raised, entriesFault}
 use Rattle.grid.specs.Memories.{raisedCount, setMinColWidth, setMinRowHeight, colWidth, rowHeight, widths, heights}
 use Rattle.grid.specs.Grids.{noted, advanced, advance, rowEnded, endRow}
 use Rattle.grid.specs.Refusals.{memoryFault, maxCellFault, gridFault}
-use Rattle.grid.specs.Lent.{notedSize}
+use Rattle.grid.specs.Implementation.Lent.{notedSize}
 use Rattle.grid.proofs.Remembered.{entry-there, after, length-after, raised-same, raised-kept, raised-skipped}
 use Rattle.emath.specs.declared.Rect.{Rect}
 use Rattle.grid.specs.declared.Memory.{Memory}

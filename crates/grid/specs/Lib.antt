@@ -1,8 +1,8 @@
--- grid.rs, in its order: lists of lengths; the memory; what the grid computes; what is refused; the public calls with the refusals in front; a
--- grid whose arrays are lent.
+-- grid.rs, in its order: lists of lengths; the memory; what the grid computes; what is refused; the public calls with the refusals in front.
 pub mod Entries
 pub mod Memories
 pub mod Grids
 pub mod Refusals
 pub mod Operations
-pub mod Lent
+-- Not part of the specification.
+pub mod Implementation

@@ -21,7 +21,7 @@ ghost use Rattle.emath.specs.Steps.{tick};
 ghost use Rattle.emath.specs.declared.Rect.{Rect as Place};
 ghost use Rattle.grid.specs.declared.BareGrid.{BareGrid as Bare};
 ghost use Rattle.grid.specs.Grids.{nextWidth, nextCell, advance, endRow};
-ghost use Rattle.grid.specs.Lent.{gridOf, bareOf, spotOf, notedSize};
+ghost use Rattle.grid.specs.Implementation.Lent.{gridOf, bareOf, spotOf, notedSize};
 
 pub fn bare(grid: GridLayout) -> BareGrid
     ensures { λ g. ⌜ g ≡ bareOf grid ⌝ }

@@ -15,7 +15,7 @@ use Rattle.records.specs.declared.Step.the-variants.{Widget, Space, RowHeight, 
 use Rattle.records.specs.declared.Record.{Record}
 use Rattle.records.specs.declared.Record.the-variants.{Wrong}
 use Rattle.sheet.proofs.WalkedPasses.{no-such}
-use Rattle.listing.specs.Putting.{mark}
+use Rattle.listing.specs.Implementation.Putting.{mark}
 
 -- a record with w W, or none
 data Holds (w : ℕ) : Record → Type 0 where

@@ -26,7 +26,7 @@ use Rattle.sheet.specs.Texts.{stepsOf, noHeading, afterHeading, sheetOf, sheetI
 use Rattle.sheet.specs.Slices.{judged, laid}
 use Rattle.sheet.specs.Slices.{controls}
 use Rattle.sheet.proofs.WalkedPasses.{no-such, NoFault}
-use Rattle.listing.specs.Putting.{isGrid, hasGrid}
+use Rattle.listing.specs.Implementation.Putting.{isGrid, hasGrid}
 
 -- ---- each W is a control
 steps-all : (rs : List Record) → widgets rs ≡ controls (stepsOf rs)

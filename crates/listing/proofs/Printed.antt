@@ -32,7 +32,7 @@ use Rattle.pass_laws.proofs.WholeEdges.{whole-pass}
 use Rattle.sheet.proofs.WalkedPasses.{no-such, no-fault}
 use Rattle.sheet.proofs.Shown.{Shown, shown, no-number, some-number, pass-all}
 use Rattle.listing.specs.Lists.{printed, widgetLines, entryLines, memoryLines, acceptedLines, refusalLine, outcomeLines, answered, listOf, listIn}
-use Rattle.listing.specs.Putting.{Put, putAccepted, WholeMemory, isAccepted, hasGrid, printable, Printable, putPassed, numberOf}
+use Rattle.listing.specs.Implementation.Putting.{Put, putAccepted, WholeMemory, isAccepted, hasGrid, printable, Printable, putPassed, numberOf}
 use Rattle.listing.proofs.Puts.{Within}
 use Rattle.listing.proofs.Written as written
 use Rattle.listing.proofs.Written.{after}

@@ -19,14 +19,14 @@ use Rattle.sheet.specs.Pass.{Outcome, refusedAt, pass}
 use Rattle.sheet.specs.Passes.{passes}
 use Rattle.sheet.specs.Texts.{sheetIn}
 use Rattle.sheet.specs.Slices.{LaidOut, laidOf, passedOf, judged, laid}
-use Rattle.sheet.specs.Passing.{Room, Known}
+use Rattle.sheet.specs.Implementation.Passing.{Room, Known}
 use Rattle.sheet.specs.Slices.{Called}
 use Rattle.sheet.specs.declared.Passed.{Passed}
 use Rattle.sheet.proofs.WalkedPasses.{no-such, no-fault}
 use Rattle.sheet.proofs.Slices.{laid-length}
 use Rattle.sheet.proofs.Shown.{some-number}
 use Rattle.listing.specs.Lists.{printed, settledFrom, settled, listOf}
-use Rattle.listing.specs.Putting.{Put, isAccepted, hasGrid, Printable, putPassed, numberOf}
+use Rattle.listing.specs.Implementation.Putting.{Put, isAccepted, hasGrid, Printable, putPassed, numberOf}
 use Rattle.listing.proofs.Written.{after}
 use Rattle.listing.proofs.Places.{grid-there}
 use Rattle.listing.proofs.Printed.{accepted-is, first-prints, first-list, second-prints, second-list}

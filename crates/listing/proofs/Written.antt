@@ -26,8 +26,8 @@ use Rattle.pass_laws.specs.WholeCells.{WholeCells, more}
 use Rattle.sheet.specs.Ticks.{ticks, inTicks}
 use Rattle.sheet.specs.Slices.{edges, eight, written}
 use Rattle.listing.specs.Lists.{widgetLines, entryLines, memoryLines, refusalLine}
-use Rattle.listing.specs.Putting as putting
-use Rattle.listing.specs.Putting.{Put, bytes, putLine, placesOf, mark, putWidget, putWidgets, putEntries, putMemory, putAccepted, Whole, WholeMemory}
+use Rattle.listing.specs.Implementation.Putting as putting
+use Rattle.listing.specs.Implementation.Putting.{Put, bytes, putLine, placesOf, mark, putWidget, putWidgets, putEntries, putMemory, putAccepted, Whole, WholeMemory}
 use Rattle.listing.proofs.Letters.{mark-is}
 use Rattle.listing.proofs.Texts.{edges-texts, none-left, widget-texts, entry-texts, refusal-texts}
 

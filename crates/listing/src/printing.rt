@@ -22,7 +22,7 @@ ghost use Rattle.emath.specs.Steps.{tick};
 ghost use Rattle.layout.specs.Steps.{WholeRect};
 ghost use Rattle.sheet.specs.Slices.{passedOf};
 ghost use Rattle.listing.specs.Lists.{settled, listIn};
-ghost use Rattle.listing.specs.Putting.{isGrid, hasGrid, isAccepted, putAccepted, putPassed, WholeMemory, Printable, numberOf};
+ghost use Rattle.listing.specs.Implementation.Putting.{isGrid, hasGrid, isAccepted, putAccepted, putPassed, WholeMemory, Printable, numberOf};
 
 fn is_grid(r: Record) -> bool
     ensures { λ b. ⌜ b ≡ isGrid r ⌝ }

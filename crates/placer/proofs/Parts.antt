@@ -8,7 +8,7 @@ use Rattle.layout.specs.Rules.{withCursor}
 use Rattle.layout.specs.declared.Region.{Region}
 use Rattle.grid.specs.Grids as grid-rules
 use Rattle.placer.specs.Rules.{setGrid, withRegion, setCursor, expandToIncludeRect, movedPast, advanceAfterRects, endRow}
-use Rattle.placer.specs.Lent.{placerWith}
+use Rattle.placer.specs.Implementation.Lent.{placerWith}
 use Rattle.placer.specs.declared.Placer.{Placer}
 
 module _ (p : Placer) (f w : Rect) (sp : Vec2) where

@@ -14,7 +14,7 @@ use Rattle.grid.specs.Refusals.{gridFault, directionFault}
 use Rattle.grid.proofs.Unfaulted.{lesser-zero, zero-lesser, advance-fault, end-row-fault}
 use Rattle.placer.specs.Rules.{withRegion, setCursor, expandToIncludeRect, movedPast, advanceAfterRects, endRow}
 use Rattle.placer.specs.Refusals.{gridPart, placerFault, advanceFault, placerAnswer, changed}
-use Rattle.placer.specs.Lent.{raisedPart, pastPart}
+use Rattle.placer.specs.Implementation.Lent.{raisedPart, pastPart}
 use Rattle.placer.proofs.Parts.{ended, row-ended}
 use Rattle.emath.specs.declared.Rect.{Rect}
 use Rattle.emath.specs.declared.Vec2.{Vec2}

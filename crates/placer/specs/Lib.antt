@@ -1,7 +1,8 @@
 -- placer.rs, in its order: what the calls compute; what is refused; the public calls with the refusals in front; whole
--- steps; a placer whose arrays are lent.
+-- steps.
 pub mod Rules
 pub mod Refusals
 pub mod Operations
 pub mod Steps
-pub mod Lent
+-- Not part of the specification.
+pub mod Implementation

@@ -30,7 +30,7 @@ ghost use Rattle.placer.specs.declared.Spot.{Spot as Given};
 ghost use Rattle.placer.specs.Rules.{withRegion, endRow};
 ghost use Rattle.placer.specs.Refusals.{placerFault, placerAnswer, changed};
 ghost use Rattle.placer.specs.Operations.{checkedAdvanceCursor, checkedEndRow, checkedSetRowHeight, checkedSetMaxWidth, checkedSetMaxHeight, checkedSetMinWidth, checkedSetMinHeight};
-ghost use Rattle.placer.specs.Lent.{placerOf, answerOf};
+ghost use Rattle.placer.specs.Implementation.Lent.{placerOf, answerOf};
 
 fn answer(number: u8, new: Spot) -> SpotAnswer
     ensures { λ a. ⌜ ((p : Bare) (s : Given) (pw ph ws hs : List Float) → answerOf p s a pw ph ws hs ≡ placerAnswer number (placerOf p s pw ph ws hs) (placerOf p new pw ph ws hs)) ⌝ }

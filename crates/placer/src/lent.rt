@@ -24,7 +24,7 @@ ghost use Rattle.emath.specs.Steps.{tick};
 ghost use Rattle.emath.specs.declared.Rect.{Rect as Frame};
 ghost use Rattle.emath.specs.declared.Vec2.{Vec2 as Spacing};
 ghost use Rattle.placer.specs.Rules.{nextSpace, justifyAndAlign, movedPast, advanceAfterRects};
-ghost use Rattle.placer.specs.Lent.{placerOf, bareOf, spotOf, raisedPart, pastPart};
+ghost use Rattle.placer.specs.Implementation.Lent.{placerOf, bareOf, spotOf, raisedPart, pastPart};
 
 pub fn bare(placer: Placer) -> BarePlacer
     ensures { λ p. ⌜ p ≡ bareOf placer ⌝ }

@@ -14,7 +14,7 @@ ghost use Rattle.emath.specs.Steps.{tick};
 ghost use Rattle.layout.specs.Rules.{expandToIncludeX, expandToIncludeY};
 ghost use Rattle.grid.specs.declared.GridLayout.{GridLayout};
 ghost use Rattle.placer.specs.Rules.{limitedAcross, limitedDown, setMaxWidth, setMaxHeight, setMinWidth, setMinHeight};
-ghost use Rattle.placer.specs.Lent.{placerWith};
+ghost use Rattle.placer.specs.Implementation.Lent.{placerWith};
 
 // Not below min_rect.
 fn limited_across(region: Region, rect: Rect) -> Region

@@ -15,7 +15,7 @@ use Rattle.records.specs.declared.Checked.the-variants.{Accepted, Refuse
 use Rattle.records.specs.Parts.{letter, ends, lengthIn, isLength, lengthValue}
 use Rattle.records.specs.Records.{pick, stepRecord, widgetRecord, recordOf, recordAt, size, rest, nextAt}
 use Rattle.records.specs.Sheets.{recordsFrom, placed, misplaced}
-use Rattle.records.specs.Keeping.{storedStep, stored, Says, Kept}
+use Rattle.records.specs.Implementation.Keeping.{storedStep, stored, Says, Kept}
 use Rattle.records.proofs.Places.{next-is-rest}
 use Rattle.records.proofs.Reached.{Reached, placed-on, stops, none-left, no-fault}
 

@@ -3,4 +3,5 @@ pub mod Parts
 pub mod Records
 pub mod Sheets
 pub mod Writers
-pub mod Keeping
+-- Not part of the specification.
+pub mod Implementation

@@ -7,7 +7,7 @@ ghost use mathlib.Core.Path.{_≡_};
 ghost use Prim.Native.Nat.{_+_, _≤_, _<_};
 ghost use lib.ListN.{length, drop};
 ghost use Rattle.records.specs.Records.{recordAt};
-ghost use Rattle.records.specs.Keeping.{storedStep, stored, Says};
+ghost use Rattle.records.specs.Implementation.Keeping.{storedStep, stored, Says};
 
 // The heights come after all the widths. Side by side, a record's two would be read at once where each was just written alone, and that waits.
 const HEIGHTS: usize = 513;

@@ -15,7 +15,7 @@ ghost use Prim.Native.Nat.{ℕ, _≤_};
 ghost use lib.ListN.{length};
 ghost use Rattle.records.specs.Sheets.{placed as placedAt, widgetStep, widget as widgetOf, checked, sized};
 ghost use Rattle.records.specs.declared.Checked.the-variants.{Accepted};
-ghost use Rattle.records.specs.Keeping.{Kept};
+ghost use Rattle.records.specs.Implementation.Keeping.{Kept};
 
 // Whether this may be record k, from 1.
 fn placed(k: usize, r: Record) -> bool

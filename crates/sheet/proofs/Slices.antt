@@ -17,10 +17,10 @@ use Rattle.grid.specs.declared.Memory.{Memory}
 use Rattle.placer.specs.declared.Placer.{Placer}
 use Rattle.records.specs.Records.{recordAt, size, rest, nextAt}
 use Rattle.records.proofs.Places.{next-is-rest}
-use Rattle.records.specs.Keeping.{Kept}
+use Rattle.records.specs.Implementation.Keeping.{Kept}
 use Rattle.records.proofs.Reached.{records-step}
 use Rattle.records.proofs.Keeping.{kept-next}
-use Rattle.sheet.specs.Passing.{Room}
+use Rattle.sheet.specs.Implementation.Passing.{Room}
 use Rattle.records.specs.Sheets.{recordsFrom, records, after, misplaced, widgets, widget, widgetStep, isEmpty, pick, sized, checked}
 use Rattle.records.specs.declared.Checked.{Checked}
 use Rattle.records.specs.declared.Checked.the-variants.{Accepted, Refused}

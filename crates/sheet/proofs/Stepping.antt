@@ -16,7 +16,7 @@ use Rattle.grid.proofs.Unfaulted.{zero-lesser}
 use Rattle.placer.specs.Rules.{nextSpace, justifyAndAlign, advanceAfterRects}
 use Rattle.placer.specs.Refusals.{placerFault, advanceFault, changed}
 use Rattle.placer.specs.Operations.{checkedNew, checkedSetGrid, checkedAdvanceCursor, checkedEndRow, checkedSetRowHeight, checkedSetMaxWidth, checkedSetMaxHeight, checkedSetMinWidth, checkedSetMinHeight}
-use Rattle.placer.specs.Lent.{pastPart}
+use Rattle.placer.specs.Implementation.Lent.{pastPart}
 use Rattle.placer.proofs.Accepted.{changed-accepted}
 use Rattle.placer.proofs.Unfaulted.{past-fault}
 use Rattle.placer.specs.declared.Placer.{Placer}
@@ -31,7 +31,7 @@ use Rattle.records.specs.declared.Record.{Record}
 use Rattle.records.specs.declared.Record.the-variants as record-of
 use Rattle.sheet.specs.Pass.{cellOf, widgetFault, widgetStep, gridOf, gridded}
 use Rattle.sheet.proofs.Runs.{widget-placed}
-use Rattle.sheet.specs.Calls.{givenNumber, answeredNumber, placement, stepMoved, recordMoved}
+use Rattle.sheet.specs.Implementation.Calls.{givenNumber, answeredNumber, placement, stepMoved, recordMoved}
 
 -- ---- a W
 module _ (p : Placer) (sp s : Vec2) (none : placerFault p ≡ 0) (cols : length (p .grid .«curr_state» .«col_widths») ≡ 32) (rows : length (p .grid .«curr_state» .«row_heights») ≡ 128) where

@@ -27,8 +27,8 @@ use Rattle.sheet.specs.Pass.{Sheet, Outcome, Ran, called, followed, runF
 use Rattle.sheet.specs.Texts.{stepsOf, afterHeading, sheetOf, sheetIn}
 use Rattle.sheet.specs.Slices.{written, passedOf, LaidOut, Called, judged, laid}
 use Rattle.sheet.specs.declared.Passed.{Passed}
-use Rattle.sheet.specs.Passing as passing
-use Rattle.sheet.specs.Passing.{ranOf, Answer, turnedBack, goneOn, plainOn, gridOn, afterHead, fromHeading, fromRecord, fromCheck, passIn}
+use Rattle.sheet.specs.Implementation.Passing as passing
+use Rattle.sheet.specs.Implementation.Passing.{ranOf, Answer, turnedBack, goneOn, plainOn, gridOn, afterHead, fromHeading, fromRecord, fromCheck, passIn}
 use Rattle.sheet.proofs.WalkedRuns.{OnlySteps, none, more, walkOf, walked-is-run}
 
 -- an outcome with its rectangles in the slice

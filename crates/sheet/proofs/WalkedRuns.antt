@@ -21,8 +21,8 @@ use Rattle.records.specs.declared.Record.the-variants as record-of
 use Rattle.sheet.specs.Pass.{Cell, Stepped, Ran, widgetStep, stepped, followed, runFrom}
 use Rattle.sheet.specs.Texts.{stepsOf}
 use Rattle.sheet.specs.Slices.{eight, written}
-use Rattle.sheet.specs.Calls.{Moved, placement, stepMoved, recordMoved}
-use Rattle.sheet.specs.Walks.{putAt, Walk, pick, done, walked}
+use Rattle.sheet.specs.Implementation.Calls.{Moved, placement, stepMoved, recordMoved}
+use Rattle.sheet.specs.Implementation.Walks.{putAt, Walk, pick, done, walked}
 
 -- ---- stores one after the other
 sets-append : (xs ys l : List ℤ) (i : ℕ) → sets l i (xs ++ ys) ≡ sets (sets l i xs) (i + length xs) ys

@@ -22,8 +22,8 @@ use Rattle.records.specs.declared.Step.the-variants.{Widget, Space, RowHeight, 
 use Rattle.records.specs.declared.Record.{Record}
 use Rattle.records.specs.declared.Record.the-variants as record-of
 use Rattle.sheet.specs.Pass.{cellOf}
-use Rattle.sheet.specs.Calls.{Moved, placement, stepMoved, recordMoved}
-use Rattle.sheet.specs.Walks.{putAt, Walk, pick, done, walked}
+use Rattle.sheet.specs.Implementation.Calls.{Moved, placement, stepMoved, recordMoved}
+use Rattle.sheet.specs.Implementation.Walks.{putAt, Walk, pick, done, walked}
 use Rattle.sheet.proofs.Runs.{widget-placed}
 use Rattle.sheet.proofs.Stepping.{moved-none}
 use Rattle.sheet.proofs.PlacedCells.{cell-whole}

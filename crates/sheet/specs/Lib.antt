@@ -4,7 +4,5 @@ pub mod Passes
 pub mod Texts
 pub mod Ticks
 pub mod Slices
--- How the code goes through a text.
-pub mod Calls
-pub mod Walks
-pub mod Passing
+-- Not part of the specification.
+pub mod Implementation

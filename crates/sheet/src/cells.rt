@@ -8,7 +8,7 @@ ghost use lib.Seq.{sets};
 ghost use Rattle.emath.specs.Steps.{tick, Edge};
 ghost use Rattle.layout.specs.Steps.{WholeRect};
 ghost use Rattle.sheet.specs.Ticks.{ticks};
-ghost use Rattle.sheet.specs.Walks.{eightOf, putAt};
+ghost use Rattle.sheet.specs.Implementation.Walks.{eightOf, putAt};
 
 // An edge that is a whole tick, counted in ticks.
 pub fn tick(x: f32) -> i32

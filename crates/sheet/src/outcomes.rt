@@ -16,8 +16,8 @@ use records::Heading;
 ghost use mathlib.Core.Path.{_≡_};
 ghost use mathlib.Core.List.{[]};
 ghost use Rattle.sheet.specs.Pass.{refusedAt, outcomeOf, gridded as griddedBy};
-ghost use Rattle.sheet.specs.Passing.{ranOf};
-ghost use Rattle.sheet.specs.Walks.{runOf};
+ghost use Rattle.sheet.specs.Implementation.Passing.{ranOf};
+ghost use Rattle.sheet.specs.Implementation.Walks.{runOf};
 ghost use Rattle.sheet.specs.Slices.{laidOf, passedOf};
 
 fn laid_of(number: u8, at: usize) -> Laid

@@ -28,8 +28,8 @@ ghost use Rattle.placer.specs.Refusals.{placerFault};
 ghost use Rattle.records.specs.Records.{nextAt};
 ghost use Rattle.records.specs.Sheets.{recordsFrom, widgets, checked};
 ghost use Rattle.records.specs.declared.Checked.the-variants.{Accepted};
-ghost use Rattle.records.specs.Keeping.{Kept};
-ghost use Rattle.sheet.specs.Passing.{Room, goneOn, plainOn, gridOn, afterHead, fromHeading, fromRecord, Known};
+ghost use Rattle.records.specs.Implementation.Keeping.{Kept};
+ghost use Rattle.sheet.specs.Implementation.Passing.{Room, goneOn, plainOn, gridOn, afterHead, fromHeading, fromRecord, Known};
 ghost use Rattle.sheet.specs.Slices.{Called};
 
 // Record n gave a placer: the records from `from` on, or n's refusal.

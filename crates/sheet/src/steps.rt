@@ -22,8 +22,8 @@ ghost use mathlib.Core.Path.{_≡_};
 ghost use mathlib.Core.List.{List};
 ghost use lib.Ieee.{Float};
 ghost use Rattle.placer.specs.declared.BarePlacer.{BarePlacer as Bare};
-ghost use Rattle.placer.specs.Lent.{placerOf, answerOf};
-ghost use Rattle.sheet.specs.Calls.{movedOf, givenNumber, answeredNumber, placement, calledBy, stepMoved, recordMoved, Ready};
+ghost use Rattle.placer.specs.Implementation.Lent.{placerOf, answerOf};
+ghost use Rattle.sheet.specs.Implementation.Calls.{movedOf, givenNumber, answeredNumber, placement, calledBy, stepMoved, recordMoved, Ready};
 
 // What a W's calls are given: 4 to 8.
 fn given_number(placer: BarePlacer, spot: Spot, spacing: Vec2, size: Vec2) -> u8

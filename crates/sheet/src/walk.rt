@@ -11,10 +11,10 @@ ghost use mathlib.Core.Path.{_≡_};
 ghost use Prim.Native.Nat.{_+_, _*_, _≤_};
 ghost use lib.ListN.{length, drop};
 ghost use Rattle.records.specs.Sheets.{recordsFrom, widgets};
-ghost use Rattle.records.specs.Keeping.{Kept};
-ghost use Rattle.placer.specs.Lent.{placerOf};
-ghost use Rattle.sheet.specs.Calls.{Ready};
-ghost use Rattle.sheet.specs.Walks.{runOf, walked};
+ghost use Rattle.records.specs.Implementation.Keeping.{Kept};
+ghost use Rattle.placer.specs.Implementation.Lent.{placerOf};
+ghost use Rattle.sheet.specs.Implementation.Calls.{Ready};
+ghost use Rattle.sheet.specs.Implementation.Walks.{runOf, walked};
 
 // From the place `from`, where record `first` is, at most `most` records, the W as they were kept; each W's rectangles go to the slice.
 pub fn run(

@@ -31,7 +31,7 @@ use Rattle.pass_laws.proofs.TextTicks.{text-whole}
 use Rattle.sheet.proofs.WalkedPasses.{no-such, no-fault}
 use Rattle.pass_laws.proofs.WholeEdges.{whole-pass}
 use Rattle.listing.specs.Lists.{widgetLines, printed, acceptedLines, outcomeLines, memoryLines, answered, listOf}
-use Rattle.listing.specs.Putting.{WholeMemory}
+use Rattle.listing.specs.Implementation.Putting.{WholeMemory}
 use Rattle.listing.proofs.Memories.{first-whole, second-whole}
 use Rattle.listing.proofs.Places.{all-controls}
 use Rattle.listing.proofs.Texts.{ticks-are}

@@ -10,7 +10,7 @@ use lib.Dec.{leb, ltb, eqb}
 use lib.ListN.{length}
 use lib.IntN.{ℤ, pos, negsuc, negℤ}
 use Rattle.text.specs.Fields.{shown, column, columns, pick}
-use Rattle.text.specs.Scanning.{none, valueFrom, zeroOnly, unsigned, fits, plus, minus, signed, scan}
+use Rattle.text.specs.Implementation.Scanning.{none, valueFrom, zeroOnly, unsigned, fits, plus, minus, signed, scan}
 use Rattle.text.specs.declared.Field.the-variants.{Number, Wrong}
 use Rattle.text.proofs.Turns.{ten-pos}
 use Rattle.text.proofs.RoundTrip.{minus-at}

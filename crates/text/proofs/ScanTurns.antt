@@ -9,7 +9,7 @@ use borrow.Author.Tests.{lt-ltb, le-ltb, eq-eqb, ne-eqb}
 use lib.Dec.{lit<}
 use lib.ListN.{length, getD, drop, drop-of-length-le}
 use lib.Seq.{drop-cons}
-use Rattle.text.specs.Scanning.{none, valueFrom, zeroOnly, unsigned, plus, minus, signed, scan}
+use Rattle.text.specs.Implementation.Scanning.{none, valueFrom, zeroOnly, unsigned, plus, minus, signed, scan}
 use Rattle.text.specs.declared.Field.{Field}
 use Rattle.text.specs.declared.Field.the-variants.{Blank}
 

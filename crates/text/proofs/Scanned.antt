@@ -10,7 +10,7 @@ use lib.Dec.{ltb, eqb}
 use lib.ListN.{length}
 use lib.IntN.{ℤ, pos, negsuc, negℤ, natAbs}
 use Rattle.text.specs.Fields.{shown, column, columns, text, hasText, digitsFrom, same, blank, pick, numberOf, field}
-use Rattle.text.specs.Scanning.{none, valueFrom, zeroOnly, unsigned, fits, plus, minus, signed, scan}
+use Rattle.text.specs.Implementation.Scanning.{none, valueFrom, zeroOnly, unsigned, fits, plus, minus, signed, scan}
 use Rattle.text.specs.declared.Field.{Field}
 use Rattle.text.specs.declared.Field.the-variants.{Blank, Number, Wrong}
 use Rattle.text.proofs.Turns.{ten-pos}

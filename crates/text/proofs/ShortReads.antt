@@ -7,8 +7,8 @@ use native.Mathlib.Omega.{arith}
 use borrow.Author.Tests.{eqb-true}
 use lib.Dec.{eqb}
 use lib.ListN.{length, getD, drop}
-use Rattle.text.specs.Scanning.{valueFrom, plus, scan, Skips}
-use Rattle.text.specs.Short.{Digit, Reads}
+use Rattle.text.specs.Implementation.Scanning.{valueFrom, plus, scan, Skips}
+use Rattle.text.specs.Implementation.Short.{Digit, Reads}
 use Rattle.text.proofs.ScanSound.{no-such}
 use Rattle.text.proofs.ScanTurns.{value-turn, value-end, digits-first, no-minus, scan-turn, scan-stop}
 

@@ -2,6 +2,5 @@
 pub mod Letters
 pub mod Fields
 pub mod Lines
--- How the code reads a field.
-pub mod Scanning
-pub mod Short
+-- Not part of the specification.
+pub mod Implementation

@@ -7,7 +7,7 @@ ghost use lib.ListN.{length, drop};
 ghost use lib.Seq.{sets};
 ghost use lib.IntN.{natAbs};
 ghost use Rattle.text.specs.Fields.{column as columnOf, columns, field, fieldAt, hasText, negative, writtenAt};
-ghost use Rattle.text.specs.Scanning.{none, valueFrom, unsigned as unsignedOf, fits as fitsIn, plus as plusOf, minus as minusOf, signed as signedOf, Spaces};
+ghost use Rattle.text.specs.Implementation.Scanning.{none, valueFrom, unsigned as unsignedOf, fits as fitsIn, plus as plusOf, minus as minusOf, signed as signedOf, Spaces};
 
 const TENS: [u32; 8] = [1, 10, 100, 1000, 10000, 100000, 1000000, 10000000];
 

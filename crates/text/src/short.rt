@@ -5,8 +5,8 @@ ghost use mathlib.Core.Bool.{true, false, cond};
 ghost use mathlib.Core.Path.{_≡_};
 ghost use Prim.Native.Nat.{_+_, _-_, _*_, _≤_, _<_};
 ghost use lib.ListN.{length};
-ghost use Rattle.text.specs.Scanning.{none, Skips};
-ghost use Rattle.text.specs.Short.{Digit, Reads};
+ghost use Rattle.text.specs.Implementation.Scanning.{none, Skips};
+ghost use Rattle.text.specs.Implementation.Short.{Digit, Reads};
 
 // Four spaces, the first in the lowest byte.
 const FOUR_SPACES: u32 = 538976288;

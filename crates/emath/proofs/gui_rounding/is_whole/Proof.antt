@@ -1,7 +1,7 @@
 -- `emath::gui_rounding::is_whole` meets its contract. Assumes nothing.
 use lib.Ieee.{binary32, ofBits, add, sub, le, eq}
 use lib.Ieee.Fits.{and-l, and-r}
-use Rattle.emath.specs.Shifting.{shift}
+use Rattle.emath.specs.Implementation.Shifting.{shift}
 use Rattle.emath.proofs.Tests.{T-of}
 use Rattle.emath.proofs.Shifted.{least, shifted-back}
 use Rattle.emath.proofs.gui_rounding.is_whole.Statement.{statement}

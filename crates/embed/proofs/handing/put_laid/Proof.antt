@@ -1,4 +1,4 @@
-use Rattle.embed.specs.Handing.{numberOf, recordOf}
+use Rattle.embed.specs.Implementation.Handing.{numberOf, recordOf}
 use borrow.Author.Needs.{needs}
 use Rattle.embed.proofs.handing.put_laid.Statement.{statement}
 use Rattle.embed.proofs.handing.put_laid.Tie as tie

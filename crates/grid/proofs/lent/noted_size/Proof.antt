@@ -1,6 +1,6 @@
 -- `grid::lent::noted_size` meets its contract. Assumes nothing.
 use Rattle.grid.specs.Memories.{colWidth, rowHeight}
-use Rattle.grid.specs.Lent.{notedSize}
+use Rattle.grid.specs.Implementation.Lent.{notedSize}
 use borrow.Author.Needs.{needs}
 use Rattle.grid.proofs.lent.noted_size.Statement.{statement}
 use Rattle.grid.proofs.lent.noted_size.Tie as tie

@@ -1,6 +1,6 @@
 use mathlib.Core.Path.{_∙_}
 use Rattle.listing.proofs.Puts.{entries-turn, entries-end, whole-at}
-use Rattle.listing.specs.Putting.{putEntries}
+use Rattle.listing.specs.Implementation.Putting.{putEntries}
 use lib.ListN.{length, drop}
 use mathlib.Core.Path.{_≡_}
 use Prim.Native.Nat.{_-_, _≤_}

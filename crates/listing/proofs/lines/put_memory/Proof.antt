@@ -3,7 +3,7 @@ use Prim.Native.Nat.{_-_, _≤_}
 use native.Mathlib.Omega.{arith}
 use lib.ListN.{length, length-take}
 use Rattle.grid.specs.Memories.{heights}
-use Rattle.listing.specs.Putting.{Put, putEntries, putMemory}
+use Rattle.listing.specs.Implementation.Putting.{Put, putEntries, putMemory}
 use borrow.Author.Needs.{needs}
 use Rattle.listing.proofs.lines.put_memory.Statement.{statement}
 use Rattle.listing.proofs.lines.put_memory.Tie as tie

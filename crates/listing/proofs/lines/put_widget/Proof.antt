@@ -6,7 +6,7 @@ use native.Mathlib.Omega.{arith}
 use Rattle.text.proofs.Signs.{Same}
 use lib.IntN.{pos}
 use borrow.Author.Tests.{eq-eqb, ne-eqb}
-use Rattle.listing.specs.Putting.{putWidget}
+use Rattle.listing.specs.Implementation.Putting.{putWidget}
 use borrow.Author.Needs.{needs}
 use Rattle.listing.proofs.lines.put_widget.Statement.{statement}
 use Rattle.listing.proofs.lines.put_widget.Tie as tie

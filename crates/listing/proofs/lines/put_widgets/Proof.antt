@@ -1,7 +1,7 @@
 use native.Mathlib.Omega.{arith}
 use mathlib.Core.Path.{_∙_}
 use Rattle.listing.proofs.Puts.{widgets-turn, widgets-end, widgets-full}
-use Rattle.listing.specs.Putting.{putWidgets}
+use Rattle.listing.specs.Implementation.Putting.{putWidgets}
 use lib.ListN.{length, drop}
 use mathlib.Core.Path.{_≡_}
 use Prim.Native.Nat.{_+_, _≤_}

@@ -1,4 +1,4 @@
-use Rattle.listing.specs.Putting.{hasGrid}
+use Rattle.listing.specs.Implementation.Putting.{hasGrid}
 use borrow.Author.Needs.{needs}
 use Rattle.listing.proofs.printing.has_grid.Statement.{statement}
 use Rattle.listing.proofs.printing.has_grid.Tie as tie

@@ -1,4 +1,4 @@
-use Rattle.listing.specs.Putting.{isAccepted}
+use Rattle.listing.specs.Implementation.Putting.{isAccepted}
 use borrow.Author.Needs.{needs}
 use Rattle.listing.proofs.printing.is_accepted.Statement.{statement}
 use Rattle.listing.proofs.printing.is_accepted.Tie as tie

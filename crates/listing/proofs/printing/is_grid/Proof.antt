@@ -1,4 +1,4 @@
-use Rattle.listing.specs.Putting.{isGrid}
+use Rattle.listing.specs.Implementation.Putting.{isGrid}
 use borrow.Author.Needs.{needs}
 use Rattle.listing.proofs.printing.is_grid.Statement.{statement}
 use Rattle.listing.proofs.printing.is_grid.Tie as tie

@@ -1,7 +1,7 @@
 use mathlib.Core.Path.{ap, _∙_}
 use Rattle.sheet.specs.Ticks.{inTicks}
 use Rattle.sheet.specs.Slices.{edges}
-use Rattle.listing.specs.Putting.{Put, putLine, putMemory, putAccepted}
+use Rattle.listing.specs.Implementation.Putting.{Put, putLine, putMemory, putAccepted}
 use borrow.Author.Needs.{needs}
 use Rattle.listing.proofs.printing.put_accepted.Statement.{statement}
 use Rattle.listing.proofs.printing.put_accepted.Tie as tie

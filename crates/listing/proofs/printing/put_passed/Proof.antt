@@ -1,5 +1,5 @@
 use native.Mathlib.Omega.{arith}
-use Rattle.listing.specs.Putting.{printable, putPassed, numberOf}
+use Rattle.listing.specs.Implementation.Putting.{printable, putPassed, numberOf}
 use borrow.Author.Needs.{needs}
 use Rattle.listing.proofs.printing.put_passed.Statement.{statement}
 use Rattle.listing.proofs.printing.put_passed.Tie as tie

@@ -1,6 +1,6 @@
 -- `placer::calls::end_row` meets its contract. Assumes nothing.
 use Rattle.emath.specs.Refusals.{least}
-use Rattle.placer.specs.Lent.{placerOf}
+use Rattle.placer.specs.Implementation.Lent.{placerOf}
 use Rattle.placer.proofs.Parts.{row-ended-plain}
 use Rattle.placer.specs.Refusals.{endRowFault}
 use Rattle.placer.specs.Operations.{checkedEndRow}

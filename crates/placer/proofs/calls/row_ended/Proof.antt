@@ -1,5 +1,5 @@
 -- `placer::calls::row_ended` meets its contract. Assumes nothing.
-use Rattle.placer.specs.Lent.{placerOf}
+use Rattle.placer.specs.Implementation.Lent.{placerOf}
 use Rattle.placer.proofs.Unfaulted.{row-ended-is}
 use borrow.Author.Needs.{needs}
 use Rattle.placer.proofs.calls.row_ended.Statement.{statement}

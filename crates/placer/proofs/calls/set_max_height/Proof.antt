@@ -1,5 +1,5 @@
 -- `placer::calls::set_max_height` meets its contract. Assumes nothing.
-use Rattle.placer.specs.Lent.{placerOf}
+use Rattle.placer.specs.Implementation.Lent.{placerOf}
 use Rattle.placer.specs.Rules.{setMaxHeight}
 use Rattle.placer.specs.Operations.{checkedSetMaxHeight}
 use borrow.Author.Needs.{needs}

@@ -1,5 +1,5 @@
 -- `placer::calls::set_max_width` meets its contract. Assumes nothing.
-use Rattle.placer.specs.Lent.{placerOf}
+use Rattle.placer.specs.Implementation.Lent.{placerOf}
 use Rattle.placer.specs.Rules.{setMaxWidth}
 use Rattle.placer.specs.Operations.{checkedSetMaxWidth}
 use borrow.Author.Needs.{needs}

@@ -1,6 +1,6 @@
 -- `placer::calls::set_min_height` meets its contract. Assumes nothing.
 use Rattle.emath.specs.Steps.{tick}
-use Rattle.placer.specs.Lent.{placerOf}
+use Rattle.placer.specs.Implementation.Lent.{placerOf}
 use Rattle.placer.specs.Operations.{checkedSetMinHeight}
 use Rattle.placer.proofs.Kept.{min-height-region}
 use borrow.Author.Needs.{needs}

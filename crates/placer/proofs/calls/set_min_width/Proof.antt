@@ -1,6 +1,6 @@
 -- `placer::calls::set_min_width` meets its contract. Assumes nothing.
 use Rattle.emath.specs.Steps.{tick}
-use Rattle.placer.specs.Lent.{placerOf}
+use Rattle.placer.specs.Implementation.Lent.{placerOf}
 use Rattle.placer.specs.Operations.{checkedSetMinWidth}
 use Rattle.placer.proofs.Kept.{min-width-region}
 use borrow.Author.Needs.{needs}

@@ -1,6 +1,6 @@
 -- `placer::calls::settled` meets its contract. Assumes nothing.
 use Rattle.placer.specs.Rules.{withRegion}
-use Rattle.placer.specs.Lent.{placerOf}
+use Rattle.placer.specs.Implementation.Lent.{placerOf}
 use Rattle.placer.proofs.Unfaulted.{region-fault, changed-is}
 use borrow.Author.Needs.{needs}
 use Rattle.placer.proofs.calls.settled.Statement.{statement}

@@ -1,5 +1,5 @@
 -- `placer::lent::advance` meets its contract. Assumes nothing.
-use Rattle.placer.specs.Lent.{placerOf}
+use Rattle.placer.specs.Implementation.Lent.{placerOf}
 use Rattle.placer.proofs.Parts.{past-grid, past-plain}
 use borrow.Author.Needs.{needs}
 use Rattle.placer.proofs.lent.advance.Statement.{statement}

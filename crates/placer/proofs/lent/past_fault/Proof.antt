@@ -1,5 +1,5 @@
 -- `placer::lent::past_fault` meets its contract. Assumes nothing.
-use Rattle.placer.specs.Lent.{pastPart}
+use Rattle.placer.specs.Implementation.Lent.{pastPart}
 use borrow.Author.Needs.{needs}
 use Rattle.placer.proofs.lent.past_fault.Statement.{statement}
 use Rattle.placer.proofs.lent.past_fault.Tie as tie

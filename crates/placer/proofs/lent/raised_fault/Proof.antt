@@ -1,5 +1,5 @@
 -- `placer::lent::raised_fault` meets its contract. Assumes nothing.
-use Rattle.placer.specs.Lent.{raisedPart}
+use Rattle.placer.specs.Implementation.Lent.{raisedPart}
 use borrow.Author.Needs.{needs}
 use Rattle.placer.proofs.lent.raised_fault.Statement.{statement}
 use Rattle.placer.proofs.lent.raised_fault.Tie as tie

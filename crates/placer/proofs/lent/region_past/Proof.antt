@@ -1,5 +1,5 @@
 -- `placer::lent::region_past` meets its contract. Assumes nothing.
-use Rattle.placer.specs.Lent.{placerOf}
+use Rattle.placer.specs.Implementation.Lent.{placerOf}
 use Rattle.placer.proofs.Parts.{region-past}
 use borrow.Author.Needs.{needs}
 use Rattle.placer.proofs.lent.region_past.Statement.{statement}

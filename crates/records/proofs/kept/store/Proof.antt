@@ -1,5 +1,5 @@
 -- `records::kept::store` meets its contract. Assumes nothing.
-use Rattle.records.specs.Keeping.{stored}
+use Rattle.records.specs.Implementation.Keeping.{stored}
 use borrow.Author.Needs.{needs}
 use Rattle.records.proofs.kept.store.Statement.{statement}
 use Rattle.records.proofs.kept.store.Tie as tie

@@ -1,5 +1,5 @@
 -- `records::kept::store_step` meets its contract. Assumes nothing.
-use Rattle.records.specs.Keeping.{storedStep}
+use Rattle.records.specs.Implementation.Keeping.{storedStep}
 use lib.ListN.{length-set}
 use native.Mathlib.Omega.{arith}
 use borrow.Author.Needs.{needs}

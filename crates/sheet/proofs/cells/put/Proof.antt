@@ -1,6 +1,6 @@
 use borrow.Author.Tests.{lt-ltb, le-ltb}
 use native.Mathlib.Omega.{arith}
-use Rattle.sheet.specs.Walks.{putAt}
+use Rattle.sheet.specs.Implementation.Walks.{putAt}
 use borrow.Author.Needs.{needs}
 use Rattle.sheet.proofs.cells.put.Statement.{statement}
 use Rattle.sheet.proofs.cells.put.Tie as tie

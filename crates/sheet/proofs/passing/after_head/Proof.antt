@@ -1,5 +1,5 @@
 -- `sheet::passing::after_head` meets its contract. Assumes nothing.
-use Rattle.sheet.specs.Passing.{afterHead}
+use Rattle.sheet.specs.Implementation.Passing.{afterHead}
 use borrow.Author.Needs.{needs}
 use Rattle.sheet.proofs.passing.after_head.Statement.{statement}
 use Rattle.sheet.proofs.passing.after_head.Tie as tie

@@ -2,7 +2,7 @@
 use mathlib.Core.Path.{refl}
 use borrow.Author.Tests.{eq-eqb, ne-eqb}
 use Rattle.sheet.specs.Pass.{headed}
-use Rattle.sheet.specs.Passing.{fromHeading}
+use Rattle.sheet.specs.Implementation.Passing.{fromHeading}
 use Rattle.sheet.proofs.Stepping.{headed-none}
 use borrow.Author.Needs.{needs}
 use Rattle.sheet.proofs.passing.from_heading.Statement.{statement}

@@ -1,4 +1,4 @@
-use Rattle.sheet.specs.Passing.{fromRecord}
+use Rattle.sheet.specs.Implementation.Passing.{fromRecord}
 use mathlib.Core.Path.{refl}
 use borrow.Author.Needs.{needs}
 use Rattle.sheet.proofs.passing.from_record.Statement.{statement}

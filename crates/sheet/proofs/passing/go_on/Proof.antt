@@ -1,11 +1,11 @@
 -- `sheet::passing::go_on` meets its contract. Assumes nothing.
 use mathlib.Core.Path.{_≡_, refl, ap, _∙_}
 use borrow.Author.Tests.{eq-eqb, ne-eqb}
-use Rattle.placer.specs.Lent.{placerOf}
+use Rattle.placer.specs.Implementation.Lent.{placerOf}
 use Rattle.sheet.specs.Pass.{outcomeOf}
 use Rattle.sheet.specs.Slices.{passedOf}
-use Rattle.sheet.specs.Passing.{ranOf, goneOn}
-use Rattle.sheet.specs.Walks.{Walk}
+use Rattle.sheet.specs.Implementation.Passing.{ranOf, goneOn}
+use Rattle.sheet.specs.Implementation.Walks.{Walk}
 use borrow.Author.Needs.{needs}
 use Rattle.sheet.proofs.passing.go_on.Statement.{statement}
 use Rattle.sheet.proofs.passing.go_on.Tie as tie

@@ -1,5 +1,5 @@
 -- `sheet::passing::pass_again` meets its contract. Assumes nothing.
-use Rattle.sheet.specs.Passing.{passIn, fromCheck}
+use Rattle.sheet.specs.Implementation.Passing.{passIn, fromCheck}
 use Rattle.sheet.proofs.WalkedPasses.{as-laid}
 use borrow.Author.Needs.{needs}
 use Rattle.sheet.proofs.passing.pass_again.Statement.{statement}

@@ -1,7 +1,7 @@
 -- `sheet::passing::pass_keeping` meets its contract. Assumes nothing.
 use mathlib.Core.Path.{refl, sym, _∙_}
 use Rattle.records.proofs.Keeping.{refused-not}
-use Rattle.sheet.specs.Passing.{passIn, fromCheck}
+use Rattle.sheet.specs.Implementation.Passing.{passIn, fromCheck}
 use Rattle.sheet.proofs.Slices.{room-after}
 use Rattle.sheet.proofs.WalkedPasses.{as-laid}
 use borrow.Author.Needs.{needs}

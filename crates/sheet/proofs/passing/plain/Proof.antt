@@ -1,7 +1,7 @@
 -- `sheet::passing::plain` meets its contract. Assumes nothing.
 use native.Mathlib.Omega.{arith}
 use Rattle.records.proofs.Places.{next-within}
-use Rattle.sheet.specs.Passing.{plainOn}
+use Rattle.sheet.specs.Implementation.Passing.{plainOn}
 use borrow.Author.Needs.{needs}
 use Rattle.sheet.proofs.passing.plain.Statement.{statement}
 use Rattle.sheet.proofs.passing.plain.Tie as tie

@@ -1,7 +1,7 @@
 -- `sheet::passing::with_grid` meets its contract. Assumes nothing.
 use native.Mathlib.Omega.{arith}
 use Rattle.records.proofs.Places.{next-within}
-use Rattle.sheet.specs.Passing.{gridOn}
+use Rattle.sheet.specs.Implementation.Passing.{gridOn}
 use Rattle.sheet.proofs.Stepping.{gridded-none}
 use borrow.Author.Needs.{needs}
 use Rattle.sheet.proofs.passing.with_grid.Statement.{statement}

@@ -1,6 +1,6 @@
 -- `sheet::steps::answered_number` meets its contract. Assumes nothing.
 use Rattle.emath.specs.Refusals.{least}
-use Rattle.sheet.specs.Calls.{answeredNumber}
+use Rattle.sheet.specs.Implementation.Calls.{answeredNumber}
 use borrow.Author.Needs.{needs}
 use Rattle.sheet.proofs.steps.answered_number.Statement.{statement}
 use Rattle.sheet.proofs.steps.answered_number.Tie as tie

@@ -1,7 +1,7 @@
 -- `sheet::steps::given_number` meets its contract. Assumes nothing.
 use Rattle.emath.specs.Refusals.{least}
 use Rattle.placer.specs.Refusals.{advanceFault}
-use Rattle.sheet.specs.Calls.{givenNumber}
+use Rattle.sheet.specs.Implementation.Calls.{givenNumber}
 use borrow.Author.Needs.{needs}
 use Rattle.sheet.proofs.steps.given_number.Statement.{statement}
 use Rattle.sheet.proofs.steps.given_number.Tie as tie

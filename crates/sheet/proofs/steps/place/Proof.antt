@@ -1,5 +1,5 @@
 -- `sheet::steps::place` meets its contract. Assumes nothing.
-use Rattle.placer.specs.Lent.{placerOf}
+use Rattle.placer.specs.Implementation.Lent.{placerOf}
 use Rattle.sheet.proofs.Stepping.{placement-refused, placement-accepted}
 use borrow.Author.Needs.{needs}
 use Rattle.sheet.proofs.steps.place.Statement.{statement}

@@ -1,5 +1,5 @@
 -- `sheet::steps::record_moved` meets its contract. Assumes nothing.
-use Rattle.sheet.specs.Calls.{recordMoved}
+use Rattle.sheet.specs.Implementation.Calls.{recordMoved}
 use borrow.Author.Needs.{needs}
 use Rattle.sheet.proofs.steps.record_moved.Statement.{statement}
 use Rattle.sheet.proofs.steps.record_moved.Tie as tie

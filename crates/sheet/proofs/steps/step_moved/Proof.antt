@@ -1,6 +1,6 @@
 -- `sheet::steps::step_moved` meets its contract. Assumes nothing.
 use mathlib.Core.Path.{ap, _∙_}
-use Rattle.sheet.specs.Calls.{calledBy, stepMoved}
+use Rattle.sheet.specs.Implementation.Calls.{calledBy, stepMoved}
 use borrow.Author.Needs.{needs}
 use Rattle.sheet.proofs.steps.step_moved.Statement.{statement}
 use Rattle.sheet.proofs.steps.step_moved.Tie as tie

@@ -3,14 +3,14 @@ use Prim.Native.Nat.{_+_, _*_, _≤_}
 use mathlib.Core.Path.{_≡_, ap, sym, _∙_}
 use native.Mathlib.Omega.{arith}
 use lib.ListN.{length, drop}
-use Rattle.placer.specs.Lent.{placerOf}
+use Rattle.placer.specs.Implementation.Lent.{placerOf}
 use Rattle.records.specs.Sheets.{recordsFrom, widgets}
 use Rattle.records.specs.declared.Record.{Record}
-use Rattle.records.specs.Keeping.{Kept}
+use Rattle.records.specs.Implementation.Keeping.{Kept}
 use Rattle.records.proofs.Places.{next-within}
 use Rattle.records.proofs.Keeping.{kept-here, kept-next}
-use Rattle.sheet.specs.Calls.{recordMoved, Ready}
-use Rattle.sheet.specs.Walks.{walked}
+use Rattle.sheet.specs.Implementation.Calls.{recordMoved, Ready}
+use Rattle.sheet.specs.Implementation.Walks.{walked}
 use Rattle.sheet.proofs.Walking.{walk-ends, walk-is-full, walk-stops, walk-goes-on, room-left, moved-few, moved-in-ticks, moved-unfaulted}
 use borrow.Author.Needs.{needs}
 use Rattle.sheet.proofs.walk.run.Statement.{statement}

@@ -1,5 +1,5 @@
 use borrow.Author.Tests.{eq-eqb, ne-eqb}
-use Rattle.text.specs.Scanning.{fits}
+use Rattle.text.specs.Implementation.Scanning.{fits}
 use Rattle.text.proofs.fields.fits.Statement.{statement}
 use Rattle.text.proofs.fields.fits.Tie as tie
 

@@ -1,6 +1,6 @@
 use borrow.Author.Tests.{eq-eqb, ne-eqb}
 use mathlib.Core.Path.{ap, sym, _∙_}
-use Rattle.text.specs.Scanning.{minus}
+use Rattle.text.specs.Implementation.Scanning.{minus}
 use Rattle.text.specs.declared.Field.the-variants.{Number}
 use Rattle.text.proofs.Signs.{opposite-fits, opposite-value}
 use Rattle.text.proofs.ScanSound.{fits-is}

@@ -1,5 +1,5 @@
 use mathlib.Core.Path.{ap, sym, _∙_}
-use Rattle.text.specs.Scanning.{plus}
+use Rattle.text.specs.Implementation.Scanning.{plus}
 use Rattle.text.specs.declared.Field.the-variants.{Number}
 use Rattle.text.proofs.Signs.{small-value}
 use Rattle.text.proofs.ScanSound.{fits-is}

@@ -3,7 +3,7 @@ use Prim.Native.Nat.{ℕ, _-_, _≤_}
 use mathlib.Core.Path.{_≡_, refl}
 use native.Mathlib.Omega.{arith}
 use lib.ListN.{drop, length}
-use Rattle.text.specs.Scanning.{Skips}
+use Rattle.text.specs.Implementation.Scanning.{Skips}
 use Rattle.text.proofs.ScanTurns.{scan-turn}
 use borrow.Author.Needs.{needs}
 use Rattle.text.proofs.fields.spaces.Statement.{statement}

@@ -1,6 +1,6 @@
 use Rattle.text.proofs.ScanTurns.{few, seven, eight, value-end, too-low, too-high, value-turn}
 use Rattle.text.proofs.Turns.{ten-pos}
-use Rattle.text.specs.Scanning.{valueFrom}
+use Rattle.text.specs.Implementation.Scanning.{valueFrom}
 use lib.ListN.{drop, length}
 use mathlib.Core.Path.{_≡_, refl}
 use Prim.Native.Nat.{_-_, _^_, _≤_, _<_}

@@ -1,4 +1,4 @@
--- How the code knows a whole number: it comes back when 12582912 is added and taken away. Nobody has to believe it.
+-- How the code knows a whole number: it comes back when 12582912 is added and taken away.
 use mathlib.Core.Bool.{false}
 use lib.IntN.{pos}
 use lib.Ieee.{Float, fin, binary32, add, sub, mul, div}

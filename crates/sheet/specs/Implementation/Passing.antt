@@ -15,7 +15,7 @@ use Rattle.placer.specs.declared.Placer.{Placer}
 use Rattle.placer.specs.declared.PlacerAnswer.{PlacerAnswer}
 use Rattle.records.specs.Records.{recordAt, nextAt}
 use Rattle.records.specs.Sheets.{recordsFrom, widgets, checked}
-use Rattle.records.specs.Keeping.{Kept}
+use Rattle.records.specs.Implementation.Keeping.{Kept}
 use Rattle.records.specs.declared.Heading.{Heading}
 use Rattle.records.specs.declared.GridOptions.{GridOptions}
 use Rattle.records.specs.declared.Record.{Record}
@@ -25,7 +25,7 @@ use Rattle.records.specs.declared.Checked.the-variants as checked-of
 use Rattle.sheet.specs.declared.Passed.{Passed}
 use Rattle.sheet.specs.Pass.{Ran, refusedAt, outcomeOf, headed, gridded}
 use Rattle.sheet.specs.Slices.{passedOf}
-use Rattle.sheet.specs.Walks.{Run, walked}
+use Rattle.sheet.specs.Implementation.Walks.{Run, walked}
 
 -- the slice has room for the W after H, and after G, and what each says is kept
 pub record Room (text : List ℕ) (room : ℕ) (sizes : List Float) : Type 0 where

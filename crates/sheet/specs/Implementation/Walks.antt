@@ -9,14 +9,14 @@ use lib.Ieee.{Float}
 use Rattle.emath.specs.Steps.{tick}
 use Rattle.emath.specs.declared.Rect.{Rect}
 use Rattle.emath.specs.declared.Vec2.{Vec2}
-use Rattle.placer.specs.Lent.{placerOf}
+use Rattle.placer.specs.Implementation.Lent.{placerOf}
 use Rattle.placer.specs.declared.Placer.{Placer}
 use Rattle.placer.specs.declared.BarePlacer.{BarePlacer}
 use Rattle.records.specs.Records.{recordOf, rest}
 use Rattle.sheet.specs.declared.SpotRun.{SpotRun}
 use Rattle.sheet.specs.Ticks.{inTicks}
 use Rattle.sheet.specs.Slices.{edges}
-use Rattle.sheet.specs.Calls.{recordMoved}
+use Rattle.sheet.specs.Implementation.Calls.{recordMoved}
 
 abbrev pub eightOf : Rect → Rect → List ℤ
 eightOf frame widget = edges (inTicks tick frame) ++ edges (inTicks tick widget)

@@ -1,4 +1,4 @@
--- How the check keeps what each W says, by the number of its record, so that it is read once. Nobody has to believe it.
+-- How the check keeps what each W says, by the number of its record, so that it is read once.
 use Prim.Native.Nat.{ℕ, zero, suc, _+_}
 use mathlib.Core.Path.{_≡_}
 use mathlib.Core.List.{List, [], _∷_}

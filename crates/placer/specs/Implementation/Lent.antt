@@ -8,7 +8,7 @@ use Rattle.emath.specs.declared.Rect.{Rect}
 use Rattle.layout.specs.Refusals.{regionFault}
 use Rattle.layout.specs.declared.Layout.{Layout}
 use Rattle.layout.specs.declared.Region.{Region}
-use Rattle.grid.specs.Lent.{gridOf, notedSize, bareOf as bareGrid, spotOf as gridSpot}
+use Rattle.grid.specs.Implementation.Lent.{gridOf, notedSize, bareOf as bareGrid, spotOf as gridSpot}
 use Rattle.grid.specs.declared.GridLayout.{GridLayout}
 use Rattle.placer.specs.declared.Placer.{Placer}
 use Rattle.placer.specs.declared.PlacerAnswer.{PlacerAnswer}

@@ -12,7 +12,7 @@ use Rattle.emath.specs.declared.Vec2.{Vec2}
 use Rattle.layout.specs.Refusals.{zeroRect}
 use Rattle.placer.specs.Refusals.{placerFault, advanceFault}
 use Rattle.placer.specs.Operations.{checkedAdvanceCursor, checkedEndRow, checkedSetRowHeight, checkedSetMaxWidth, checkedSetMaxHeight, checkedSetMinWidth, checkedSetMinHeight}
-use Rattle.placer.specs.Lent.{placerOf}
+use Rattle.placer.specs.Implementation.Lent.{placerOf}
 use Rattle.placer.specs.declared.Placer.{Placer}
 use Rattle.placer.specs.declared.PlacerAnswer.{PlacerAnswer}
 use Rattle.placer.specs.declared.BarePlacer.{BarePlacer}

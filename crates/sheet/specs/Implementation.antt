@@ -1,0 +1,4 @@
+-- How the code goes through a text. Not part of the specification.
+pub mod Calls
+pub mod Walks
+pub mod Passing

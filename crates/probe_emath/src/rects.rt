@@ -119,7 +119,7 @@ pub extern "C" fn emath_align_size_within_range(
     max: f32,
     out: &mut [f32; 2],
 ) {
-    let a = align_of(align);
+    let a = align_of(align as usize);
     put_range(out, a.align_size_within_range(size, Rangef { min, max }));
 }
 
@@ -132,7 +132,7 @@ pub extern "C" fn emath_align2_size_within_rect(
     frame: &[f32; 4],
     out: &mut [f32; 4],
 ) {
-    let a = align2_of(across, down);
+    let a = align2_of(across as usize, down as usize);
     put_rect(out, a.align_size_within_rect(Vec2 { x, y }, rect_of(frame)));
 }
 
@@ -149,14 +149,14 @@ pub extern "C" fn emath_left_center_size_within_rect(
 
 #[no_mangle]
 pub extern "C" fn emath_align2_with_x(across: u8, down: u8, x: u8) -> u8 {
-    let a = align2_of(across, down);
-    code_of(a.with_x(align_of(x)))
+    let a = align2_of(across as usize, down as usize);
+    code_of(a.with_x(align_of(x as usize)))
 }
 
 #[no_mangle]
 pub extern "C" fn emath_align2_with_y(across: u8, down: u8, y: u8) -> u8 {
-    let a = align2_of(across, down);
-    code_of(a.with_y(align_of(y)))
+    let a = align2_of(across as usize, down as usize);
+    code_of(a.with_y(align_of(y as usize)))
 }
 
 // LEFT, TOP, RIGHT and BOTTOM, as the sizes they align.

@@ -2,73 +2,63 @@
 use probe_values::grids::answer_length;
 use probe_values::grids::memory_of;
 use probe_values::grids::put_memory;
+use probe_values::packing::Counts;
+use probe_values::packing::LENGTH;
+use probe_values::packing::Lengths;
+use probe_values::packing::PLACE;
 
 #[no_mangle]
 pub extern "C" fn grid_memory_set_min_col_width(
-    widths: &[f32; 32],
-    heights: &[f32; 128],
-    counts: &[usize; 2],
-    col: usize,
-    width: f32,
-    out_widths: &mut [f32; 32],
-    out_heights: &mut [f32; 128],
-    out_counts: &mut [usize; 2],
+    lengths: &Lengths,
+    counts: &Counts,
+    out: &mut Lengths,
+    out_counts: &mut Counts,
 ) -> u8 {
-    let m = memory_of(widths, heights, counts);
-    let a = m.set_min_col_width(col, width);
-    put_memory(out_widths, out_heights, out_counts, a.memory);
+    let m = memory_of(lengths, counts);
+    let a = m.set_min_col_width(counts[PLACE], lengths[LENGTH]);
+    put_memory(out, out_counts, a.memory);
     a.number
 }
 
 #[no_mangle]
 pub extern "C" fn grid_memory_set_min_row_height(
-    widths: &[f32; 32],
-    heights: &[f32; 128],
-    counts: &[usize; 2],
-    row: usize,
-    height: f32,
-    out_widths: &mut [f32; 32],
-    out_heights: &mut [f32; 128],
-    out_counts: &mut [usize; 2],
+    lengths: &Lengths,
+    counts: &Counts,
+    out: &mut Lengths,
+    out_counts: &mut Counts,
 ) -> u8 {
-    let m = memory_of(widths, heights, counts);
-    let a = m.set_min_row_height(row, height);
-    put_memory(out_widths, out_heights, out_counts, a.memory);
+    let m = memory_of(lengths, counts);
+    let a = m.set_min_row_height(counts[PLACE], lengths[LENGTH]);
+    put_memory(out, out_counts, a.memory);
     a.number
 }
 
 #[no_mangle]
 pub extern "C" fn grid_memory_col_width(
-    widths: &[f32; 32],
-    heights: &[f32; 128],
-    counts: &[usize; 2],
-    col: usize,
+    lengths: &Lengths,
+    counts: &Counts,
     out: &mut [f32; 2],
 ) -> u8 {
-    let m = memory_of(widths, heights, counts);
-    answer_length(out, m.col_width(col))
+    let m = memory_of(lengths, counts);
+    answer_length(out, m.col_width(counts[PLACE]))
 }
 
 #[no_mangle]
 pub extern "C" fn grid_memory_row_height(
-    widths: &[f32; 32],
-    heights: &[f32; 128],
-    counts: &[usize; 2],
-    row: usize,
+    lengths: &Lengths,
+    counts: &Counts,
     out: &mut [f32; 2],
 ) -> u8 {
-    let m = memory_of(widths, heights, counts);
-    answer_length(out, m.row_height(row))
+    let m = memory_of(lengths, counts);
+    answer_length(out, m.row_height(counts[PLACE]))
 }
 
 #[no_mangle]
 pub extern "C" fn grid_memory_full_width(
-    widths: &[f32; 32],
-    heights: &[f32; 128],
-    counts: &[usize; 2],
-    x_spacing: f32,
+    lengths: &Lengths,
+    counts: &Counts,
     out: &mut [f32; 2],
 ) -> u8 {
-    let m = memory_of(widths, heights, counts);
-    answer_length(out, m.full_width(x_spacing))
+    let m = memory_of(lengths, counts);
+    answer_length(out, m.full_width(lengths[LENGTH]))
 }

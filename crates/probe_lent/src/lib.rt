@@ -3,24 +3,26 @@ use lent_region::edit;
 use probe_values::layouts::answer_region;
 use probe_values::layouts::layout_of;
 use probe_values::layouts::region_of;
-use probe_values::rects::vec2_of;
+use probe_values::packing::Counts;
+use probe_values::packing::ITEM_SPACING;
+use probe_values::packing::LENGTH;
+use probe_values::packing::Lengths;
+use probe_values::packing::vec2_at;
 
 // The two lent calls on one region: their numbers, and the region as each left it.
 #[no_mangle]
 pub extern "C" fn lent_edit(
-    layout: &[u8; 6],
-    region: &[f32; 12],
-    amount: f32,
-    spacing: &[f32; 2],
+    lengths: &Lengths,
+    counts: &Counts,
     numbers: &mut [u8; 2],
-    advanced: &mut [f32; 12],
-    ended: &mut [f32; 12],
+    advanced: &mut Lengths,
+    ended: &mut Lengths,
 ) {
     let e = edit(
-        layout_of(layout),
-        region_of(region),
-        amount,
-        vec2_of(spacing),
+        layout_of(counts),
+        region_of(lengths),
+        lengths[LENGTH],
+        vec2_at(lengths, ITEM_SPACING),
     );
     let first = e.advanced;
     let second = e.ended;

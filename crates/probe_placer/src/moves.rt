@@ -1,149 +1,72 @@
 // The calls that make or change a placer, each giving its answer's number.
 use crate::placers::answer_placer;
 use crate::placers::placer_of;
-use emath::Rect;
 use placer::Placer;
-use placer::PlacerAnswer;
 use probe_values::grids::grid_of;
-use probe_values::grids::memory_of;
 use probe_values::layouts::layout_of;
-use probe_values::rects::rect_of;
-use probe_values::rects::vec2_of;
+use probe_values::packing::CALL;
+use probe_values::packing::Counts;
+use probe_values::packing::ITEM_SPACING;
+use probe_values::packing::LENGTH;
+use probe_values::packing::Lengths;
+use probe_values::packing::MAX_RECT;
+use probe_values::packing::RECT;
+use probe_values::packing::WIDGET_RECT;
+use probe_values::packing::rect_at;
+use probe_values::packing::vec2_at;
 
 #[no_mangle]
 pub extern "C" fn placer_new(
-    layout: &[u8; 6],
-    max_rect: &[f32; 4],
-    out_fields: &mut [u8; 7],
-    out_region: &mut [f32; 12],
-    out_prev_widths: &mut [f32; 32],
-    out_prev_heights: &mut [f32; 128],
-    out_prev_counts: &mut [usize; 2],
-    out_curr_widths: &mut [f32; 32],
-    out_curr_heights: &mut [f32; 128],
-    out_curr_counts: &mut [usize; 2],
-    out_lengths: &mut [f32; 10],
-    out_places: &mut [usize; 5],
+    lengths: &Lengths,
+    counts: &Counts,
+    out: &mut Lengths,
+    out_counts: &mut Counts,
 ) -> u8 {
-    answer_placer(
-        out_fields,
-        out_region,
-        out_prev_widths,
-        out_prev_heights,
-        out_prev_counts,
-        out_curr_widths,
-        out_curr_heights,
-        out_curr_counts,
-        out_lengths,
-        out_places,
-        Placer::new(rect_of(max_rect), layout_of(layout)),
-    )
+    let a = Placer::new(rect_at(lengths, MAX_RECT), layout_of(counts));
+    answer_placer(out, out_counts, a)
 }
 
 #[no_mangle]
 pub extern "C" fn placer_set_grid(
-    fields: &[u8; 7],
-    region: &[f32; 12],
-    prev_widths: &[f32; 32],
-    prev_heights: &[f32; 128],
-    prev_counts: &[usize; 2],
-    curr_widths: &[f32; 32],
-    curr_heights: &[f32; 128],
-    curr_counts: &[usize; 2],
-    lengths: &[f32; 10],
-    places: &[usize; 5],
-    grid_prev_widths: &[f32; 32],
-    grid_prev_heights: &[f32; 128],
-    grid_prev_counts: &[usize; 2],
-    grid_curr_widths: &[f32; 32],
-    grid_curr_heights: &[f32; 128],
-    grid_curr_counts: &[usize; 2],
-    grid_lengths: &[f32; 10],
-    grid_places: &[usize; 5],
-    out_fields: &mut [u8; 7],
-    out_region: &mut [f32; 12],
-    out_prev_widths: &mut [f32; 32],
-    out_prev_heights: &mut [f32; 128],
-    out_prev_counts: &mut [usize; 2],
-    out_curr_widths: &mut [f32; 32],
-    out_curr_heights: &mut [f32; 128],
-    out_curr_counts: &mut [usize; 2],
-    out_lengths: &mut [f32; 10],
-    out_places: &mut [usize; 5],
+    lengths: &Lengths,
+    counts: &Counts,
+    grid_lengths: &Lengths,
+    grid_counts: &Counts,
+    out: &mut Lengths,
+    out_counts: &mut Counts,
 ) -> u8 {
-    let prev = memory_of(prev_widths, prev_heights, prev_counts);
-    let curr = memory_of(curr_widths, curr_heights, curr_counts);
-    let p = placer_of(fields, region, grid_of(prev, curr, lengths, places));
-    let grid_prev = memory_of(grid_prev_widths, grid_prev_heights, grid_prev_counts);
-    let grid_curr = memory_of(grid_curr_widths, grid_curr_heights, grid_curr_counts);
-    answer_placer(
-        out_fields,
-        out_region,
-        out_prev_widths,
-        out_prev_heights,
-        out_prev_counts,
-        out_curr_widths,
-        out_curr_heights,
-        out_curr_counts,
-        out_lengths,
-        out_places,
-        p.set_grid(grid_of(grid_prev, grid_curr, grid_lengths, grid_places)),
-    )
-}
-
-fn changed_by_rect(call: u8, p: Placer, r: Rect) -> PlacerAnswer {
-    match call {
-        0 => p.force_set_min_rect(r),
-        1 => p.set_cursor(r),
-        _ => p.expand_to_include_rect(r),
-    }
+    let p = placer_of(lengths, counts);
+    let a = p.set_grid(grid_of(grid_lengths, grid_counts));
+    answer_placer(out, out_counts, a)
 }
 
 #[no_mangle]
 pub extern "C" fn placer_change_by_rect(
-    call: u8,
-    fields: &[u8; 7],
-    region: &[f32; 12],
-    prev_widths: &[f32; 32],
-    prev_heights: &[f32; 128],
-    prev_counts: &[usize; 2],
-    curr_widths: &[f32; 32],
-    curr_heights: &[f32; 128],
-    curr_counts: &[usize; 2],
-    lengths: &[f32; 10],
-    places: &[usize; 5],
-    rect: &[f32; 4],
-    out_fields: &mut [u8; 7],
-    out_region: &mut [f32; 12],
-    out_prev_widths: &mut [f32; 32],
-    out_prev_heights: &mut [f32; 128],
-    out_prev_counts: &mut [usize; 2],
-    out_curr_widths: &mut [f32; 32],
-    out_curr_heights: &mut [f32; 128],
-    out_curr_counts: &mut [usize; 2],
-    out_lengths: &mut [f32; 10],
-    out_places: &mut [usize; 5],
+    lengths: &Lengths,
+    counts: &Counts,
+    out: &mut Lengths,
+    out_counts: &mut Counts,
 ) -> u8 {
-    let prev = memory_of(prev_widths, prev_heights, prev_counts);
-    let curr = memory_of(curr_widths, curr_heights, curr_counts);
-    let p = placer_of(fields, region, grid_of(prev, curr, lengths, places));
-    answer_placer(
-        out_fields,
-        out_region,
-        out_prev_widths,
-        out_prev_heights,
-        out_prev_counts,
-        out_curr_widths,
-        out_curr_heights,
-        out_curr_counts,
-        out_lengths,
-        out_places,
-        changed_by_rect(call, p, rect_of(rect)),
-    )
+    let p = placer_of(lengths, counts);
+    let r = rect_at(lengths, RECT);
+    let a = match counts[CALL] {
+        0 => p.force_set_min_rect(r),
+        1 => p.set_cursor(r),
+        _ => p.expand_to_include_rect(r),
+    };
+    answer_placer(out, out_counts, a)
 }
 
-fn changed_by_length(call: u8, p: Placer, length: f32) -> PlacerAnswer {
-    match call {
+#[no_mangle]
+pub extern "C" fn placer_change_by_length(
+    lengths: &Lengths,
+    counts: &Counts,
+    out: &mut Lengths,
+    out_counts: &mut Counts,
+) -> u8 {
+    let p = placer_of(lengths, counts);
+    let length = lengths[LENGTH];
+    let a = match counts[CALL] {
         0 => p.advance_cursor(length),
         1 => p.set_row_height(length),
         2 => p.expand_to_include_x(length),
@@ -152,139 +75,33 @@ fn changed_by_length(call: u8, p: Placer, length: f32) -> PlacerAnswer {
         5 => p.set_max_height(length),
         6 => p.set_min_width(length),
         _ => p.set_min_height(length),
-    }
-}
-
-#[no_mangle]
-pub extern "C" fn placer_change_by_length(
-    call: u8,
-    fields: &[u8; 7],
-    region: &[f32; 12],
-    prev_widths: &[f32; 32],
-    prev_heights: &[f32; 128],
-    prev_counts: &[usize; 2],
-    curr_widths: &[f32; 32],
-    curr_heights: &[f32; 128],
-    curr_counts: &[usize; 2],
-    lengths: &[f32; 10],
-    places: &[usize; 5],
-    length: f32,
-    out_fields: &mut [u8; 7],
-    out_region: &mut [f32; 12],
-    out_prev_widths: &mut [f32; 32],
-    out_prev_heights: &mut [f32; 128],
-    out_prev_counts: &mut [usize; 2],
-    out_curr_widths: &mut [f32; 32],
-    out_curr_heights: &mut [f32; 128],
-    out_curr_counts: &mut [usize; 2],
-    out_lengths: &mut [f32; 10],
-    out_places: &mut [usize; 5],
-) -> u8 {
-    let prev = memory_of(prev_widths, prev_heights, prev_counts);
-    let curr = memory_of(curr_widths, curr_heights, curr_counts);
-    let p = placer_of(fields, region, grid_of(prev, curr, lengths, places));
-    answer_placer(
-        out_fields,
-        out_region,
-        out_prev_widths,
-        out_prev_heights,
-        out_prev_counts,
-        out_curr_widths,
-        out_curr_heights,
-        out_curr_counts,
-        out_lengths,
-        out_places,
-        changed_by_length(call, p, length),
-    )
+    };
+    answer_placer(out, out_counts, a)
 }
 
 #[no_mangle]
 pub extern "C" fn placer_advance_after_rects(
-    fields: &[u8; 7],
-    region: &[f32; 12],
-    prev_widths: &[f32; 32],
-    prev_heights: &[f32; 128],
-    prev_counts: &[usize; 2],
-    curr_widths: &[f32; 32],
-    curr_heights: &[f32; 128],
-    curr_counts: &[usize; 2],
-    lengths: &[f32; 10],
-    places: &[usize; 5],
-    frame_rect: &[f32; 4],
-    widget_rect: &[f32; 4],
-    item_spacing: &[f32; 2],
-    out_fields: &mut [u8; 7],
-    out_region: &mut [f32; 12],
-    out_prev_widths: &mut [f32; 32],
-    out_prev_heights: &mut [f32; 128],
-    out_prev_counts: &mut [usize; 2],
-    out_curr_widths: &mut [f32; 32],
-    out_curr_heights: &mut [f32; 128],
-    out_curr_counts: &mut [usize; 2],
-    out_lengths: &mut [f32; 10],
-    out_places: &mut [usize; 5],
+    lengths: &Lengths,
+    counts: &Counts,
+    out: &mut Lengths,
+    out_counts: &mut Counts,
 ) -> u8 {
-    let prev = memory_of(prev_widths, prev_heights, prev_counts);
-    let curr = memory_of(curr_widths, curr_heights, curr_counts);
-    let p = placer_of(fields, region, grid_of(prev, curr, lengths, places));
+    let p = placer_of(lengths, counts);
     let a = p.advance_after_rects(
-        rect_of(frame_rect),
-        rect_of(widget_rect),
-        vec2_of(item_spacing),
+        rect_at(lengths, RECT),
+        rect_at(lengths, WIDGET_RECT),
+        vec2_at(lengths, ITEM_SPACING),
     );
-    answer_placer(
-        out_fields,
-        out_region,
-        out_prev_widths,
-        out_prev_heights,
-        out_prev_counts,
-        out_curr_widths,
-        out_curr_heights,
-        out_curr_counts,
-        out_lengths,
-        out_places,
-        a,
-    )
+    answer_placer(out, out_counts, a)
 }
 
 #[no_mangle]
 pub extern "C" fn placer_end_row(
-    fields: &[u8; 7],
-    region: &[f32; 12],
-    prev_widths: &[f32; 32],
-    prev_heights: &[f32; 128],
-    prev_counts: &[usize; 2],
-    curr_widths: &[f32; 32],
-    curr_heights: &[f32; 128],
-    curr_counts: &[usize; 2],
-    lengths: &[f32; 10],
-    places: &[usize; 5],
-    item_spacing: &[f32; 2],
-    out_fields: &mut [u8; 7],
-    out_region: &mut [f32; 12],
-    out_prev_widths: &mut [f32; 32],
-    out_prev_heights: &mut [f32; 128],
-    out_prev_counts: &mut [usize; 2],
-    out_curr_widths: &mut [f32; 32],
-    out_curr_heights: &mut [f32; 128],
-    out_curr_counts: &mut [usize; 2],
-    out_lengths: &mut [f32; 10],
-    out_places: &mut [usize; 5],
+    lengths: &Lengths,
+    counts: &Counts,
+    out: &mut Lengths,
+    out_counts: &mut Counts,
 ) -> u8 {
-    let prev = memory_of(prev_widths, prev_heights, prev_counts);
-    let curr = memory_of(curr_widths, curr_heights, curr_counts);
-    let p = placer_of(fields, region, grid_of(prev, curr, lengths, places));
-    answer_placer(
-        out_fields,
-        out_region,
-        out_prev_widths,
-        out_prev_heights,
-        out_prev_counts,
-        out_curr_widths,
-        out_curr_heights,
-        out_curr_counts,
-        out_lengths,
-        out_places,
-        p.end_row(vec2_of(item_spacing)),
-    )
+    let p = placer_of(lengths, counts);
+    answer_placer(out, out_counts, p.end_row(vec2_at(lengths, ITEM_SPACING)))
 }

@@ -1,6 +1,6 @@
 // The entry points of crates text and records: tests only.
+use probe_values::layouts::count_of_flag;
 use probe_values::layouts::number_of_direction;
-use probe_values::layouts::number_of_flag;
 use probe_values::rects::number_of_align;
 use records::Checked;
 use records::GridOptions;
@@ -44,11 +44,11 @@ fn put_heading(lengths: &mut [f32; 6], counts: &mut [usize; 6], h: Heading) -> u
     let main_align = l.main_align;
     let cross_align = l.cross_align;
     counts[0] = number_of_direction(main_dir) as usize;
-    counts[1] = number_of_flag(l.main_wrap) as usize;
+    counts[1] = count_of_flag(l.main_wrap);
     counts[2] = number_of_align(main_align) as usize;
-    counts[3] = number_of_flag(l.main_justify) as usize;
+    counts[3] = count_of_flag(l.main_justify);
     counts[4] = number_of_align(cross_align) as usize;
-    counts[5] = number_of_flag(l.cross_justify) as usize;
+    counts[5] = count_of_flag(l.cross_justify);
     lengths[0] = h.max_rect.left;
     lengths[1] = h.max_rect.top;
     lengths[2] = h.max_rect.right;

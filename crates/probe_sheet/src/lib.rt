@@ -1,47 +1,46 @@
 // The entry point of crate sheet: tests only.
 use probe_values::grids::memory_of;
 use probe_values::grids::put_memory;
-use probe_values::layouts::number_of_flag;
+use probe_values::layouts::count_of_flag;
+use probe_values::packing::Counts;
+use probe_values::packing::KNOWN;
+use probe_values::packing::Lengths;
+use probe_values::packing::PLACE;
+use probe_values::packing::RECT;
+use probe_values::packing::SAVE;
+use probe_values::packing::SIZING_PASS;
+use probe_values::packing::put_rect_at;
 use sheet::Laid;
 use sheet::passing::pass;
 
-// The number, 0 for none, and the record.
-fn put_laid(places: &mut [usize; 2], laid: Laid) -> u8 {
+// The number, 0 for none, and the record, 0 for none too.
+fn put_laid(counts: &mut Counts, laid: Laid) -> u8 {
     match laid {
         Laid::Accepted => {
-            places[0] = 0;
+            counts[PLACE] = 0;
             0
         }
         Laid::Refused(number, record) => {
-            places[0] = record;
+            counts[PLACE] = record;
             number
         }
     }
 }
 
-// Flags: whether the memory is known, whether the pass is sizing. Places: the record at fault, 0 for none, and the save flag.
 #[no_mangle]
 pub extern "C" fn sheet_pass(
     text: &[u8],
-    flags: &[u8; 2],
-    widths: &[f32; 32],
-    heights: &[f32; 128],
-    counts: &[usize; 2],
+    lengths: &Lengths,
+    counts: &Counts,
     out: &mut [i32],
-    plate: &mut [f32; 4],
-    out_widths: &mut [f32; 32],
-    out_heights: &mut [f32; 128],
-    out_counts: &mut [usize; 2],
-    places: &mut [usize; 2],
+    out_lengths: &mut Lengths,
+    out_counts: &mut Counts,
 ) -> u8 {
-    let m = memory_of(widths, heights, counts);
-    let p = pass(text, flags[0] != 0, m, flags[1] != 0, out);
-    plate[0] = p.plate.left;
-    plate[1] = p.plate.top;
-    plate[2] = p.plate.right;
-    plate[3] = p.plate.bottom;
-    put_memory(out_widths, out_heights, out_counts, p.memory);
-    places[1] = number_of_flag(p.save) as usize;
+    let m = memory_of(lengths, counts);
+    let p = pass(text, counts[KNOWN] != 0, m, counts[SIZING_PASS] != 0, out);
+    put_rect_at(out_lengths, RECT, p.plate);
+    put_memory(out_lengths, out_counts, p.memory);
+    out_counts[SAVE] = count_of_flag(p.save);
     let laid = p.laid;
-    put_laid(places, laid)
+    put_laid(out_counts, laid)
 }

@@ -1,103 +1,101 @@
 // The values of crate grid, and its answers.
-use emath::Rect;
-use emath::Vec2;
+ghost use Prim.Native.Nat.{_+_, _≤_};
+use crate::layouts::count_of_flag;
+use crate::packing::COL;
+use crate::packing::CURR_COUNTS;
+use crate::packing::CURR_STATE;
+use crate::packing::Counts;
+use crate::packing::INITIAL_AVAILABLE;
+use crate::packing::IS_FIRST_FRAME;
+use crate::packing::Lengths;
+use crate::packing::MAX_CELL_SIZE;
+use crate::packing::MIN_CELL_SIZE;
+use crate::packing::NUM_COLUMNS;
+use crate::packing::PREV_COUNTS;
+use crate::packing::PREV_STATE;
+use crate::packing::ROW;
+use crate::packing::SIZING_PASS;
+use crate::packing::SPACING;
+use crate::packing::copy;
+use crate::packing::put_rect_at;
+use crate::packing::put_vec2_at;
+use crate::packing::rect_at;
+use crate::packing::vec2_at;
 use grid::GridLayout;
 use grid::LengthAnswer;
 use grid::Memory;
 
-// Counts: the columns, then the rows.
-pub fn memory_of(widths: &[f32; 32], heights: &[f32; 128], counts: &[usize; 2]) -> Memory {
+fn memory_at(lengths: &Lengths, counts: &Counts, at: usize, counted: usize) -> Memory
+    requires { ⌜ at + 160 ≤ 384 ⌝ }
+    requires { ⌜ counted + 2 ≤ 24 ⌝ }
+{
+    let mut widths: [f32; 32] = [0.0; 32];
+    let mut heights: [f32; 128] = [0.0; 128];
+    copy(&mut widths, 0, lengths, at, 32);
+    copy(&mut heights, 0, lengths, at + 32, 128);
     Memory {
-        col_widths: *widths,
-        cols: counts[0],
-        row_heights: *heights,
-        rows: counts[1],
+        col_widths: widths,
+        cols: counts[counted],
+        row_heights: heights,
+        rows: counts[counted + 1],
     }
 }
 
-pub fn put_memory(
-    widths: &mut [f32; 32],
-    heights: &mut [f32; 128],
-    counts: &mut [usize; 2],
-    m: Memory,
-) {
-    let ws = m.col_widths;
-    let hs = m.row_heights;
-    *widths = ws;
-    *heights = hs;
-    counts[0] = m.cols;
-    counts[1] = m.rows;
+// The lists by value: so their lengths are known.
+fn put_lists_at(lengths: &mut Lengths, at: usize, widths: [f32; 32], heights: [f32; 128])
+    requires { ⌜ at + 160 ≤ 384 ⌝ }
+{
+    copy(lengths, at, &widths, 0, 32);
+    copy(lengths, at + 32, &heights, 0, 128);
 }
 
-// Lengths: initial_available, spacing, the minimum and the maximum cell. Places: whether it is a first pass, whether it is sizing, the
-// columns named, the column, the row.
-pub fn grid_of(prev: Memory, curr: Memory, lengths: &[f32; 10], places: &[usize; 5]) -> GridLayout {
+fn put_memory_at(lengths: &mut Lengths, counts: &mut Counts, at: usize, counted: usize, m: Memory)
+    requires { ⌜ at + 160 ≤ 384 ⌝ }
+    requires { ⌜ counted + 2 ≤ 24 ⌝ }
+{
+    let widths = m.col_widths;
+    let heights = m.row_heights;
+    put_lists_at(lengths, at, widths, heights);
+    counts[counted] = m.cols;
+    counts[counted + 1] = m.rows;
+}
+
+pub fn memory_of(lengths: &Lengths, counts: &Counts) -> Memory {
+    memory_at(lengths, counts, PREV_STATE, PREV_COUNTS)
+}
+
+pub fn put_memory(lengths: &mut Lengths, counts: &mut Counts, m: Memory) {
+    put_memory_at(lengths, counts, PREV_STATE, PREV_COUNTS, m);
+}
+
+pub fn grid_of(lengths: &Lengths, counts: &Counts) -> GridLayout {
     GridLayout {
-        is_first_frame: places[0] != 0,
-        prev_state: prev,
-        curr_state: curr,
-        initial_available: Rect {
-            left: lengths[0],
-            top: lengths[1],
-            right: lengths[2],
-            bottom: lengths[3],
-        },
-        sizing_pass: places[1] != 0,
-        num_columns: places[2],
-        spacing: Vec2 {
-            x: lengths[4],
-            y: lengths[5],
-        },
-        min_cell_size: Vec2 {
-            x: lengths[6],
-            y: lengths[7],
-        },
-        max_cell_size: Vec2 {
-            x: lengths[8],
-            y: lengths[9],
-        },
-        col: places[3],
-        row: places[4],
+        is_first_frame: counts[IS_FIRST_FRAME] != 0,
+        prev_state: memory_at(lengths, counts, PREV_STATE, PREV_COUNTS),
+        curr_state: memory_at(lengths, counts, CURR_STATE, CURR_COUNTS),
+        initial_available: rect_at(lengths, INITIAL_AVAILABLE),
+        sizing_pass: counts[SIZING_PASS] != 0,
+        num_columns: counts[NUM_COLUMNS],
+        spacing: vec2_at(lengths, SPACING),
+        min_cell_size: vec2_at(lengths, MIN_CELL_SIZE),
+        max_cell_size: vec2_at(lengths, MAX_CELL_SIZE),
+        col: counts[COL],
+        row: counts[ROW],
     }
 }
 
-fn number_of(b: bool) -> usize {
-    if b { 1 } else { 0 }
-}
-
-// All but the memories.
-fn put_rest(lengths: &mut [f32; 10], places: &mut [usize; 5], g: GridLayout) {
-    lengths[0] = g.initial_available.left;
-    lengths[1] = g.initial_available.top;
-    lengths[2] = g.initial_available.right;
-    lengths[3] = g.initial_available.bottom;
-    lengths[4] = g.spacing.x;
-    lengths[5] = g.spacing.y;
-    lengths[6] = g.min_cell_size.x;
-    lengths[7] = g.min_cell_size.y;
-    lengths[8] = g.max_cell_size.x;
-    lengths[9] = g.max_cell_size.y;
-    places[0] = number_of(g.is_first_frame);
-    places[1] = number_of(g.sizing_pass);
-    places[2] = g.num_columns;
-    places[3] = g.col;
-    places[4] = g.row;
-}
-
-pub fn put_grid(
-    prev_widths: &mut [f32; 32],
-    prev_heights: &mut [f32; 128],
-    prev_counts: &mut [usize; 2],
-    curr_widths: &mut [f32; 32],
-    curr_heights: &mut [f32; 128],
-    curr_counts: &mut [usize; 2],
-    lengths: &mut [f32; 10],
-    places: &mut [usize; 5],
-    g: GridLayout,
-) {
-    put_memory(prev_widths, prev_heights, prev_counts, g.prev_state);
-    put_memory(curr_widths, curr_heights, curr_counts, g.curr_state);
-    put_rest(lengths, places, g);
+pub fn put_grid(lengths: &mut Lengths, counts: &mut Counts, g: GridLayout) {
+    counts[IS_FIRST_FRAME] = count_of_flag(g.is_first_frame);
+    put_memory_at(lengths, counts, PREV_STATE, PREV_COUNTS, g.prev_state);
+    put_memory_at(lengths, counts, CURR_STATE, CURR_COUNTS, g.curr_state);
+    put_rect_at(lengths, INITIAL_AVAILABLE, g.initial_available);
+    counts[SIZING_PASS] = count_of_flag(g.sizing_pass);
+    counts[NUM_COLUMNS] = g.num_columns;
+    put_vec2_at(lengths, SPACING, g.spacing);
+    put_vec2_at(lengths, MIN_CELL_SIZE, g.min_cell_size);
+    put_vec2_at(lengths, MAX_CELL_SIZE, g.max_cell_size);
+    counts[COL] = g.col;
+    counts[ROW] = g.row;
 }
 
 // Place 0 is the length, place 1 is 1 where there is one.

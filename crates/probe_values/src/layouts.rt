@@ -1,4 +1,17 @@
 // The values of crate layout, and its answers.
+use crate::packing::CROSS_ALIGN;
+use crate::packing::CROSS_JUSTIFY;
+use crate::packing::CURSOR;
+use crate::packing::Counts;
+use crate::packing::Lengths;
+use crate::packing::MAIN_ALIGN;
+use crate::packing::MAIN_DIR;
+use crate::packing::MAIN_JUSTIFY;
+use crate::packing::MAIN_WRAP;
+use crate::packing::MAX_RECT;
+use crate::packing::MIN_RECT;
+use crate::packing::put_rect_at;
+use crate::packing::rect_at;
 use crate::rects::align_of;
 use crate::rects::number_of_align;
 use crate::rects::put_pos2;
@@ -15,7 +28,7 @@ use layout::Region;
 use layout::RegionAnswer;
 use layout::SizeAnswer;
 
-pub fn direction_of(n: u8) -> Direction {
+pub fn direction_of(n: usize) -> Direction {
     match n {
         0 => Direction::LeftToRight,
         1 => Direction::RightToLeft,
@@ -33,56 +46,45 @@ pub fn number_of_direction(d: Direction) -> u8 {
     }
 }
 
-pub fn number_of_flag(b: bool) -> u8 {
+pub fn count_of_flag(b: bool) -> usize {
     if b { 1 } else { 0 }
 }
 
-// The six fields in document 01's order.
-pub fn layout_of(v: &[u8; 6]) -> Layout {
+pub fn layout_of(counts: &Counts) -> Layout {
     Layout {
-        main_dir: direction_of(v[0]),
-        main_wrap: v[1] != 0,
-        main_align: align_of(v[2]),
-        main_justify: v[3] != 0,
-        cross_align: align_of(v[4]),
-        cross_justify: v[5] != 0,
+        main_dir: direction_of(counts[MAIN_DIR]),
+        main_wrap: counts[MAIN_WRAP] != 0,
+        main_align: align_of(counts[MAIN_ALIGN]),
+        main_justify: counts[MAIN_JUSTIFY] != 0,
+        cross_align: align_of(counts[CROSS_ALIGN]),
+        cross_justify: counts[CROSS_JUSTIFY] != 0,
     }
 }
 
-pub fn put_layout(out: &mut [u8; 6], l: Layout) {
+pub fn put_layout(counts: &mut Counts, l: Layout) {
     let main_dir = l.main_dir;
     let main_align = l.main_align;
     let cross_align = l.cross_align;
-    out[0] = number_of_direction(main_dir);
-    out[1] = number_of_flag(l.main_wrap);
-    out[2] = number_of_align(main_align);
-    out[3] = number_of_flag(l.main_justify);
-    out[4] = number_of_align(cross_align);
-    out[5] = number_of_flag(l.cross_justify);
+    counts[MAIN_DIR] = number_of_direction(main_dir) as usize;
+    counts[MAIN_WRAP] = count_of_flag(l.main_wrap);
+    counts[MAIN_ALIGN] = number_of_align(main_align) as usize;
+    counts[MAIN_JUSTIFY] = count_of_flag(l.main_justify);
+    counts[CROSS_ALIGN] = number_of_align(cross_align) as usize;
+    counts[CROSS_JUSTIFY] = count_of_flag(l.cross_justify);
 }
 
-// min_rect, max_rect, cursor.
-pub fn region_of(v: &[f32; 12]) -> Region {
+pub fn region_of(lengths: &Lengths) -> Region {
     Region {
-        min_rect: Rect {
-            left: v[0],
-            top: v[1],
-            right: v[2],
-            bottom: v[3],
-        },
-        max_rect: Rect {
-            left: v[4],
-            top: v[5],
-            right: v[6],
-            bottom: v[7],
-        },
-        cursor: Rect {
-            left: v[8],
-            top: v[9],
-            right: v[10],
-            bottom: v[11],
-        },
+        min_rect: rect_at(lengths, MIN_RECT),
+        max_rect: rect_at(lengths, MAX_RECT),
+        cursor: rect_at(lengths, CURSOR),
     }
+}
+
+pub fn put_region(lengths: &mut Lengths, g: Region) {
+    put_rect_at(lengths, MIN_RECT, g.min_rect);
+    put_rect_at(lengths, MAX_RECT, g.max_rect);
+    put_rect_at(lengths, CURSOR, g.cursor);
 }
 
 // An answer's number; what it carries is written, as document 01 has it: all zero where a rectangle, position or size is refused.
@@ -125,22 +127,7 @@ pub fn answer_size(out: &mut [f32; 2], a: SizeAnswer) -> u8 {
     }
 }
 
-pub fn put_region(out: &mut [f32; 12], g: Region) {
-    out[0] = g.min_rect.left;
-    out[1] = g.min_rect.top;
-    out[2] = g.min_rect.right;
-    out[3] = g.min_rect.bottom;
-    out[4] = g.max_rect.left;
-    out[5] = g.max_rect.top;
-    out[6] = g.max_rect.right;
-    out[7] = g.max_rect.bottom;
-    out[8] = g.cursor.left;
-    out[9] = g.cursor.top;
-    out[10] = g.cursor.right;
-    out[11] = g.cursor.bottom;
-}
-
-pub fn answer_region(out: &mut [f32; 12], a: RegionAnswer) -> u8 {
-    put_region(out, a.region);
+pub fn answer_region(lengths: &mut Lengths, a: RegionAnswer) -> u8 {
+    put_region(lengths, a.region);
     a.number
 }

@@ -6,7 +6,7 @@ use emath::Rangef;
 use emath::Rect;
 use emath::Vec2;
 
-pub fn align_of(n: u8) -> Align {
+pub fn align_of(n: usize) -> Align {
     match n {
         0 => Align::Min,
         1 => Align::Center,
@@ -14,7 +14,7 @@ pub fn align_of(n: u8) -> Align {
     }
 }
 
-pub fn align2_of(across: u8, down: u8) -> Align2 {
+pub fn align2_of(across: usize, down: usize) -> Align2 {
     Align2 {
         x: align_of(across),
         y: align_of(down),
@@ -28,10 +28,6 @@ pub fn rect_of(v: &[f32; 4]) -> Rect {
         right: v[2],
         bottom: v[3],
     }
-}
-
-pub fn vec2_of(v: &[f32; 2]) -> Vec2 {
-    Vec2 { x: v[0], y: v[1] }
 }
 
 pub fn put_rect(out: &mut [f32; 4], r: Rect) {

@@ -11,10 +11,11 @@ pub mod states;
 use egui::layout::Layout;
 use egui::{Align, Direction};
 use emath::{Vec2, vec2};
+use packing::Packed;
 
 use crate::emath_align::align;
 use crate::tally::Tally;
-use crate::values::Fields;
+use crate::values::{Fields, State};
 use corners::Corners;
 
 pub fn compare(t: &mut Tally) {
@@ -44,6 +45,20 @@ pub fn layout(&[dir, wrap, main, main_justify, cross, cross_justify]: &Fields) -
         cross_align: align(cross),
         cross_justify: cross_justify != 0,
     }
+}
+
+/// A layout to be given.
+fn of_layout(l: &Fields) -> Packed {
+    let mut given = Packed::unfilled();
+    given.put_layout(l);
+    given
+}
+
+/// A layout and a region to be given.
+fn of_state(l: &Fields, region: &State) -> Packed {
+    let mut given = of_layout(l);
+    given.put_region(region);
+    given
 }
 
 fn align_number(a: Align) -> u8 {

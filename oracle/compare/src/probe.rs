@@ -2,8 +2,28 @@
 //!
 //! A bool comes back as a byte: whatever the other side puts there, reading it is sound.
 
+use packing::{Counts, Lengths, Packed};
+
+pub use packing::UNTOUCHED;
+
 use crate::tally::Answer;
-use crate::values::{Edges, Fields, State};
+use crate::values::{Edges, State};
+
+/// Entry points that are given a state and arguments, packed, and that answer with a number or a bool:
+/// of each its name, and the types of what else it is lent. As below, the calls are safe.
+macro_rules! entry_points {
+    ($($name:ident($($lent:ty),*);)*) => {
+        unsafe extern "C" {
+            $(pub safe fn $name(
+                lengths: &packing::Lengths,
+                counts: &packing::Counts
+                $(, _: $lent)*
+            ) -> u8;)*
+        }
+    };
+}
+#[cfg(feature = "grid")]
+pub(crate) use entry_points;
 
 // Each takes numbers and whole arrays only, reads and writes no more than those, and ends:
 // that is proved there, so the calls are safe.
@@ -83,146 +103,59 @@ unsafe extern "C" {
     pub safe fn emath_faults_frame_fault(r: &Edges) -> u8;
     pub safe fn emath_faults_outside_domain(n: u8) -> u8;
 
-    pub safe fn layout_default(out: &mut Fields);
-    pub safe fn layout_left_to_right(valign: u8, out: &mut Fields);
-    pub safe fn layout_right_to_left(valign: u8, out: &mut Fields);
-    pub safe fn layout_top_down(halign: u8, out: &mut Fields);
-    pub safe fn layout_top_down_justified(halign: u8, out: &mut Fields);
-    pub safe fn layout_bottom_up(halign: u8, out: &mut Fields);
+    pub safe fn layout_default(out: &mut Counts);
+    pub safe fn layout_left_to_right(valign: u8, out: &mut Counts);
+    pub safe fn layout_right_to_left(valign: u8, out: &mut Counts);
+    pub safe fn layout_top_down(halign: u8, out: &mut Counts);
+    pub safe fn layout_top_down_justified(halign: u8, out: &mut Counts);
+    pub safe fn layout_bottom_up(halign: u8, out: &mut Counts);
     pub safe fn layout_from_main_dir_and_cross_align(
         main_dir: u8,
         cross_align: u8,
-        out: &mut Fields,
+        out: &mut Counts,
     );
-    pub safe fn layout_centered_and_justified(main_dir: u8, out: &mut Fields);
-    pub safe fn layout_with_main_wrap(layout: &Fields, main_wrap: u8, out: &mut Fields);
-    pub safe fn layout_with_main_align(layout: &Fields, main_align: u8, out: &mut Fields);
-    pub safe fn layout_with_cross_align(layout: &Fields, cross_align: u8, out: &mut Fields);
-    pub safe fn layout_with_main_justify(layout: &Fields, main_justify: u8, out: &mut Fields);
-    pub safe fn layout_with_cross_justify(layout: &Fields, cross_justify: u8, out: &mut Fields);
-    pub safe fn layout_main_dir(layout: &Fields) -> u8;
-    pub safe fn layout_main_wrap(layout: &Fields) -> u8;
-    pub safe fn layout_cross_justify(layout: &Fields) -> u8;
-    pub safe fn layout_is_horizontal(layout: &Fields) -> u8;
-    pub safe fn layout_is_vertical(layout: &Fields) -> u8;
-    pub safe fn layout_prefer_right_to_left(layout: &Fields) -> u8;
-    pub safe fn layout_horizontal_justify(layout: &Fields) -> u8;
-    pub safe fn layout_vertical_justify(layout: &Fields) -> u8;
-    pub safe fn layout_cross_align(layout: &Fields) -> u8;
-    pub safe fn layout_horizontal_placement(layout: &Fields) -> u8;
-    pub safe fn layout_horizontal_align(layout: &Fields) -> u8;
-    pub safe fn layout_vertical_align(layout: &Fields) -> u8;
-    pub safe fn layout_align2(layout: &Fields) -> u8;
+    pub safe fn layout_centered_and_justified(main_dir: u8, out: &mut Counts);
+    pub safe fn layout_with_main_wrap(counts: &Counts, main_wrap: u8, out: &mut Counts);
+    pub safe fn layout_with_main_align(counts: &Counts, main_align: u8, out: &mut Counts);
+    pub safe fn layout_with_cross_align(counts: &Counts, cross_align: u8, out: &mut Counts);
+    pub safe fn layout_with_main_justify(counts: &Counts, main_justify: u8, out: &mut Counts);
+    pub safe fn layout_with_cross_justify(counts: &Counts, cross_justify: u8, out: &mut Counts);
+    pub safe fn layout_main_dir(counts: &Counts) -> u8;
+    pub safe fn layout_main_wrap(counts: &Counts) -> u8;
+    pub safe fn layout_cross_justify(counts: &Counts) -> u8;
+    pub safe fn layout_is_horizontal(counts: &Counts) -> u8;
+    pub safe fn layout_is_vertical(counts: &Counts) -> u8;
+    pub safe fn layout_prefer_right_to_left(counts: &Counts) -> u8;
+    pub safe fn layout_horizontal_justify(counts: &Counts) -> u8;
+    pub safe fn layout_vertical_justify(counts: &Counts) -> u8;
+    pub safe fn layout_cross_align(counts: &Counts) -> u8;
+    pub safe fn layout_horizontal_placement(counts: &Counts) -> u8;
+    pub safe fn layout_horizontal_align(counts: &Counts) -> u8;
+    pub safe fn layout_vertical_align(counts: &Counts) -> u8;
+    pub safe fn layout_align2(counts: &Counts) -> u8;
     pub safe fn layout_direction_is_horizontal(main_dir: u8) -> u8;
     pub safe fn layout_direction_is_vertical(main_dir: u8) -> u8;
-
-    pub safe fn layout_region_expand_to_include_rect(
-        main_dir: u8,
-        region: &State,
-        rect: &Edges,
-        out: &mut State,
-    ) -> u8;
-    pub safe fn layout_region_expand_to_include_x(
-        main_dir: u8,
-        region: &State,
-        x: f32,
-        out: &mut State,
-    ) -> u8;
-    pub safe fn layout_region_expand_to_include_y(
-        main_dir: u8,
-        region: &State,
-        y: f32,
-        out: &mut State,
-    ) -> u8;
-    pub safe fn layout_align_size_within_rect(
-        layout: &Fields,
-        size: &[f32; 2],
-        outer: &Edges,
-        out: &mut Edges,
-    ) -> u8;
-    pub safe fn layout_initial_cursor(layout: &Fields, max_rect: &Edges, out: &mut Edges) -> u8;
-    pub safe fn layout_region_from_max_rect(
-        layout: &Fields,
-        max_rect: &Edges,
-        out: &mut State,
-    ) -> u8;
-    pub safe fn layout_available_rect_before_wrap(
-        layout: &Fields,
-        region: &State,
-        out: &mut Edges,
-    ) -> u8;
-    pub safe fn layout_available_size(layout: &Fields, region: &State, out: &mut [f32; 2]) -> u8;
-    pub safe fn layout_available_from_cursor_max_rect(
-        layout: &Fields,
-        cursor: &Edges,
-        max_rect: &Edges,
-        out: &mut Edges,
-    ) -> u8;
-    pub safe fn layout_next_frame(
-        layout: &Fields,
-        region: &State,
-        child_size: &[f32; 2],
-        spacing: &[f32; 2],
-        out: &mut Edges,
-    ) -> u8;
-    pub safe fn layout_next_frame_ignore_wrap(
-        layout: &Fields,
-        region: &State,
-        child_size: &[f32; 2],
-        out: &mut Edges,
-    ) -> u8;
-    pub safe fn layout_justify_and_align(
-        layout: &Fields,
-        frame: &Edges,
-        child_size: &[f32; 2],
-        out: &mut Edges,
-    ) -> u8;
-    pub safe fn layout_next_widget_space_ignore_wrap_justify(
-        layout: &Fields,
-        region: &State,
-        size: &[f32; 2],
-        out: &mut Edges,
-    ) -> u8;
-    pub safe fn layout_next_widget_position(
-        layout: &Fields,
-        region: &State,
-        out: &mut [f32; 2],
-    ) -> u8;
-    pub safe fn layout_advance_cursor(
-        layout: &Fields,
-        region: &State,
-        amount: f32,
-        out: &mut State,
-    ) -> u8;
-    pub safe fn layout_advance_after_rects(
-        layout: &Fields,
-        cursor: &Edges,
-        frame_rect: &Edges,
-        widget_rect: &Edges,
-        item_spacing: &[f32; 2],
-        out: &mut Edges,
-    ) -> u8;
-    pub safe fn layout_end_row(
-        layout: &Fields,
-        region: &State,
-        spacing: &[f32; 2],
-        out: &mut State,
-    ) -> u8;
-    pub safe fn layout_set_row_height(
-        layout: &Fields,
-        region: &State,
-        height: f32,
-        out: &mut State,
-    ) -> u8;
 }
 
-pub const UNTOUCHED: f32 = 1.234_567_8e-30;
-
-/// What a call writes, and the number it gives.
-pub fn answered<const N: usize>(call: impl FnOnce(&mut [f32; N]) -> u8) -> Answer<[f32; N]> {
-    let mut value = [UNTOUCHED; N];
-    let number = call(&mut value);
-    Answer { number, value }
+entry_points! {
+    layout_region_expand_to_include_rect(&mut Lengths);
+    layout_region_expand_to_include_x(&mut Lengths);
+    layout_region_expand_to_include_y(&mut Lengths);
+    layout_align_size_within_rect(&mut Edges);
+    layout_initial_cursor(&mut Edges);
+    layout_region_from_max_rect(&mut Lengths);
+    layout_available_rect_before_wrap(&mut Edges);
+    layout_available_size(&mut [f32; 2]);
+    layout_available_from_cursor_max_rect(&mut Edges);
+    layout_next_frame(&mut Edges);
+    layout_next_frame_ignore_wrap(&mut Edges);
+    layout_justify_and_align(&mut Edges);
+    layout_next_widget_space_ignore_wrap_justify(&mut Edges);
+    layout_next_widget_position(&mut [f32; 2]);
+    layout_advance_cursor(&mut Lengths);
+    layout_advance_after_rects(&mut Edges);
+    layout_end_row(&mut Lengths);
+    layout_set_row_height(&mut Lengths);
 }
 
 /// What a call writes. A place that it leaves alone shows up as a number no case expects.
@@ -230,4 +163,42 @@ pub fn written<const N: usize>(call: impl FnOnce(&mut [f32; N])) -> [f32; N] {
     let mut out = [UNTOUCHED; N];
     call(&mut out);
     out
+}
+
+/// The number that an entry point gives, and what it writes.
+pub fn asked<const N: usize>(
+    given: &Packed,
+    entry: extern "C" fn(&Lengths, &Counts, &mut [f32; N]) -> u8,
+) -> Answer<[f32; N]> {
+    let mut value = [UNTOUCHED; N];
+    let number = entry(&given.lengths, &given.counts, &mut value);
+    Answer { number, value }
+}
+
+/// The same of one that writes a region.
+pub fn region_after(
+    given: &Packed,
+    entry: extern "C" fn(&Lengths, &Counts, &mut Lengths) -> u8,
+) -> Answer<State> {
+    let mut out = Packed::untouched();
+    let number = entry(&given.lengths, &given.counts, &mut out.lengths);
+    Answer {
+        number,
+        value: out.region(),
+    }
+}
+
+/// The same of one that writes a state.
+pub fn changed(
+    given: &Packed,
+    entry: extern "C" fn(&Lengths, &Counts, &mut Lengths, &mut Counts) -> u8,
+) -> Answer<Packed> {
+    let mut value = Packed::untouched();
+    let number = entry(
+        &given.lengths,
+        &given.counts,
+        &mut value.lengths,
+        &mut value.counts,
+    );
+    Answer { number, value }
 }

@@ -129,6 +129,15 @@ pub struct Answer<V> {
     pub value: V,
 }
 
+impl<V> Answer<V> {
+    pub fn map<W>(self, of: impl FnOnce(V) -> W) -> Answer<W> {
+        Answer {
+            number: self.number,
+            value: of(self.value),
+        }
+    }
+}
+
 impl<V: Shown> Shown for Answer<V> {
     fn show(&self) -> String {
         format!("number {}, {}", self.number, self.value.show())

@@ -1,6 +1,7 @@
 //! The Rattle's entry points.
 
 use egui::grid::driver::Memory;
+use packing::{Counts, Lengths, Packed};
 
 use crate::place::Laid;
 use crate::records::Fault;
@@ -10,17 +11,12 @@ unsafe extern "C" {
     fn sheet_pass(
         text: *const u8,
         len: usize,
-        flags: &[u8; 2],
-        widths: &[f32; 32],
-        heights: &[f32; 128],
-        counts: &[usize; 2],
+        lengths: &Lengths,
+        counts: &Counts,
         out: *mut i32,
         room: usize,
-        plate: &mut [f32; 4],
-        out_widths: &mut [f32; 32],
-        out_heights: &mut [f32; 128],
-        out_counts: &mut [usize; 2],
-        places: &mut [usize; 2],
+        out_lengths: &mut Lengths,
+        out_counts: &mut Counts,
     ) -> u8;
     fn listing_print(text: *const u8, len: usize, out: &mut [u8; ROOM]) -> usize;
 }
@@ -34,33 +30,28 @@ pub fn pass(
     sizing: bool,
     out: &mut [i32],
 ) -> Result<Laid, Fault> {
-    let given = memory.unwrap_or(&Memory::EMPTY);
-    let (mut plate, mut memory_after, mut places) = ([0.0; 4], Memory::EMPTY, [0; 2]);
+    let (mut given, mut after) = (Packed::unfilled(), Packed::untouched());
+    given.put_memory(memory.unwrap_or(&Memory::EMPTY));
+    given.put_known(memory.is_some()).put_sizing_pass(sizing);
     let number = unsafe {
         sheet_pass(
             text.as_ptr(),
             text.len(),
-            &[memory.is_some(), sizing].map(u8::from),
-            &given.widths,
-            &given.heights,
+            &given.lengths,
             &given.counts,
             out.as_mut_ptr(),
             out.len(),
-            &mut plate,
-            &mut memory_after.widths,
-            &mut memory_after.heights,
-            &mut memory_after.counts,
-            &mut places,
+            &mut after.lengths,
+            &mut after.counts,
         )
     };
-    let [record, save] = places;
     if number != 0 {
-        return Err((number, record));
+        return Err((number, after.place()));
     }
     Ok(Laid {
-        plate,
-        memory: memory_after,
-        save: save != 0,
+        plate: after.rect(),
+        memory: after.memory(),
+        save: after.save() != 0,
     })
 }
 

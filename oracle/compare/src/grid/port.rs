@@ -1,167 +1,109 @@
 //! The calls of crate grid, with a memory and a grid as `driver` has them.
 
 use egui::grid::driver::{Grid, Memory};
+use packing::Packed;
 
-use super::probe::{self, Counts, Heights, Lengths, Places, Widths};
+use super::probe;
 use super::{Moved, New, Saved};
-use crate::probe::{UNTOUCHED, answered};
+use crate::probe::{asked, changed};
 use crate::tally::Answer;
 use crate::values::{Edges, State};
 
-pub const NOWHERE: usize = usize::MAX;
-
-pub const UNTOUCHED_MEMORY: Memory = Memory {
-    widths: [UNTOUCHED; 32],
-    heights: [UNTOUCHED; 128],
-    counts: [NOWHERE; 2],
-};
-
-pub fn places(g: &Grid) -> Places {
-    let flags = [g.is_first_frame, g.sizing_pass].map(usize::from);
-    [flags[0], flags[1], g.num_columns, g.col, g.row]
+fn of_memory(m: &Memory) -> Packed {
+    let mut given = Packed::unfilled();
+    given.put_memory(m);
+    given
 }
 
-/// A call that is given a memory, then the rest.
-macro_rules! of_memory {
-    ($call:ident, $m:expr, $($rest:expr),*) => {
-        probe::$call(&$m.widths, &$m.heights, &$m.counts, $($rest),*)
-    };
+fn of_grid(g: &Grid) -> Packed {
+    let mut given = Packed::unfilled();
+    given.put_grid(g);
+    given
 }
 
-/// A call that is given a grid, then the rest.
-macro_rules! of_grid {
-    ($call:ident, $g:expr $(, $rest:expr)*) => {
-        probe::$call(
-            &$g.prev.widths,
-            &$g.prev.heights,
-            &$g.prev.counts,
-            &$g.curr.widths,
-            &$g.curr.heights,
-            &$g.curr.counts,
-            &$g.lengths,
-            &places($g)
-            $(, $rest)*
-        )
-    };
+/// A memory that was written, and whether it is to be saved.
+pub fn saved(out: &Packed) -> Saved {
+    Saved {
+        memory: out.memory(),
+        save: out.save(),
+    }
 }
 
-pub fn memory(call: impl FnOnce(&mut Widths, &mut Heights, &mut Counts) -> u8) -> Answer<Memory> {
-    let mut m = UNTOUCHED_MEMORY;
-    let number = call(&mut m.widths, &mut m.heights, &mut m.counts);
-    Answer { number, value: m }
+fn moved(out: &Packed) -> Moved {
+    Moved {
+        grid: out.grid(),
+        cursor: out.cursor(),
+    }
 }
 
 pub fn set_min_col_width(m: &Memory, col: usize, width: f32) -> Answer<Memory> {
-    memory(|w, h, c| of_memory!(grid_memory_set_min_col_width, m, col, width, w, h, c))
+    let mut given = of_memory(m);
+    given.put_place(col).put_length(width);
+    changed(&given, probe::grid_memory_set_min_col_width).map(|out| out.memory())
 }
 
 pub fn set_min_row_height(m: &Memory, row: usize, height: f32) -> Answer<Memory> {
-    memory(|w, h, c| of_memory!(grid_memory_set_min_row_height, m, row, height, w, h, c))
+    let mut given = of_memory(m);
+    given.put_place(row).put_length(height);
+    changed(&given, probe::grid_memory_set_min_row_height).map(|out| out.memory())
 }
 
 pub fn col_width(m: &Memory, col: usize) -> Answer<[f32; 2]> {
-    answered(|out| of_memory!(grid_memory_col_width, m, col, out))
+    asked(of_memory(m).put_place(col), probe::grid_memory_col_width)
 }
 
 pub fn row_height(m: &Memory, row: usize) -> Answer<[f32; 2]> {
-    answered(|out| of_memory!(grid_memory_row_height, m, row, out))
+    asked(of_memory(m).put_place(row), probe::grid_memory_row_height)
 }
 
 pub fn full_width(m: &Memory, x_spacing: f32) -> Answer<[f32; 2]> {
-    answered(|out| of_memory!(grid_memory_full_width, m, x_spacing, out))
+    let mut given = of_memory(m);
+    asked(given.put_length(x_spacing), probe::grid_memory_full_width)
 }
 
 pub fn prev_col_width(g: &Grid, col: usize) -> Answer<[f32; 2]> {
-    answered(|out| of_grid!(grid_prev_col_width, g, col, out))
+    asked(of_grid(g).put_place(col), probe::grid_prev_col_width)
 }
 
 pub fn prev_row_height(g: &Grid, row: usize) -> Answer<[f32; 2]> {
-    answered(|out| of_grid!(grid_prev_row_height, g, row, out))
+    asked(of_grid(g).put_place(row), probe::grid_prev_row_height)
 }
 
 pub fn wrap_text(g: &Grid) -> u8 {
-    of_grid!(grid_wrap_text, g)
+    let given = of_grid(g);
+    probe::grid_wrap_text(&given.lengths, &given.counts)
 }
 
 pub fn available_rect(g: &Grid, dir: u8, region: &State) -> Answer<Edges> {
-    answered(|out| of_grid!(grid_available_rect, g, dir, region, out))
+    let mut given = of_grid(g);
+    given.put_direction(dir).put_region(region);
+    asked(&given, probe::grid_available_rect)
 }
 
 pub fn next_cell(g: &Grid, dir: u8, cursor: &Edges, child_size: &[f32; 2]) -> Answer<Edges> {
-    answered(|out| of_grid!(grid_next_cell, g, dir, cursor, child_size, out))
+    let mut given = of_grid(g);
+    given.put_direction(dir).put_cursor(cursor);
+    asked(given.put_size(child_size), probe::grid_next_cell)
 }
 
 pub fn align_size_within_rect(g: &Grid, size: &[f32; 2], frame: &Edges) -> Answer<Edges> {
-    answered(|out| of_grid!(grid_align_size_within_rect, g, size, frame, out))
+    let mut given = of_grid(g);
+    given.put_size(size).put_rect(frame);
+    asked(&given, probe::grid_align_size_within_rect)
 }
 
 pub fn justify_and_align(g: &Grid, frame: &Edges, size: &[f32; 2]) -> Answer<Edges> {
-    answered(|out| of_grid!(grid_justify_and_align, g, frame, size, out))
-}
-
-/// What a call writes.
-struct Out {
-    prev: Memory,
-    curr: Memory,
-    lengths: Lengths,
-    places: Places,
-    cursor: Edges,
-}
-
-fn moved(call: impl FnOnce(&mut Out) -> u8) -> Answer<Moved> {
-    let mut out = Out {
-        prev: UNTOUCHED_MEMORY,
-        curr: UNTOUCHED_MEMORY,
-        lengths: [UNTOUCHED; 10],
-        places: [NOWHERE; 5],
-        cursor: [UNTOUCHED; 4],
-    };
-    let number = call(&mut out);
-    let [first, sizing, num_columns, col, row] = out.places;
-    let grid = Grid {
-        prev: out.prev,
-        curr: out.curr,
-        lengths: out.lengths,
-        is_first_frame: first != 0,
-        sizing_pass: sizing != 0,
-        num_columns,
-        col,
-        row,
-    };
-    let value = Moved {
-        grid,
-        cursor: out.cursor,
-    };
-    Answer { number, value }
+    let mut given = of_grid(g);
+    given.put_rect(frame).put_size(size);
+    asked(&given, probe::grid_justify_and_align)
 }
 
 pub fn new(n: &New) -> Answer<Grid> {
-    let Answer { number, value } = moved(|out| {
-        probe::grid_new(
-            n.dir,
-            &n.region,
-            u8::from(n.known),
-            &n.memory.widths,
-            &n.memory.heights,
-            &n.memory.counts,
-            u8::from(n.sizing_pass),
-            &n.options,
-            n.num_columns,
-            n.start_row,
-            &mut out.prev.widths,
-            &mut out.prev.heights,
-            &mut out.prev.counts,
-            &mut out.curr.widths,
-            &mut out.curr.heights,
-            &mut out.curr.counts,
-            &mut out.lengths,
-            &mut out.places,
-        )
-    });
-    Answer {
-        number,
-        value: value.grid,
-    }
+    let mut given = of_memory(&n.memory);
+    given.put_direction(n.dir).put_region(&n.region);
+    given.put_known(n.known).put_sizing_pass(n.sizing_pass);
+    given.put_options(&n.options).put_num_columns(n.num_columns);
+    changed(given.put_row(n.start_row), probe::grid_new).map(|out| out.grid())
 }
 
 pub fn advance(
@@ -171,53 +113,18 @@ pub fn advance(
     frame_rect: &Edges,
     widget_rect: &Edges,
 ) -> Answer<Moved> {
-    moved(|out| {
-        of_grid!(
-            grid_advance,
-            g,
-            dir,
-            cursor,
-            frame_rect,
-            widget_rect,
-            &mut out.prev.widths,
-            &mut out.prev.heights,
-            &mut out.prev.counts,
-            &mut out.curr.widths,
-            &mut out.curr.heights,
-            &mut out.curr.counts,
-            &mut out.lengths,
-            &mut out.places,
-            &mut out.cursor
-        )
-    })
+    let mut given = of_grid(g);
+    given.put_direction(dir).put_cursor(cursor);
+    given.put_rect(frame_rect).put_widget_rect(widget_rect);
+    changed(&given, probe::grid_advance).map(|out| moved(&out))
 }
 
 pub fn end_row(g: &Grid, dir: u8, cursor: &Edges) -> Answer<Moved> {
-    moved(|out| {
-        of_grid!(
-            grid_end_row,
-            g,
-            dir,
-            cursor,
-            &mut out.prev.widths,
-            &mut out.prev.heights,
-            &mut out.prev.counts,
-            &mut out.curr.widths,
-            &mut out.curr.heights,
-            &mut out.curr.counts,
-            &mut out.lengths,
-            &mut out.places,
-            &mut out.cursor
-        )
-    })
+    let mut given = of_grid(g);
+    given.put_direction(dir).put_cursor(cursor);
+    changed(&given, probe::grid_end_row).map(|out| moved(&out))
 }
 
 pub fn save(g: &Grid) -> Answer<Saved> {
-    let mut flag = [u8::MAX];
-    let Answer { number, value } = memory(|w, h, c| of_grid!(grid_save, g, w, h, c, &mut flag));
-    let value = Saved {
-        memory: value,
-        save: flag[0],
-    };
-    Answer { number, value }
+    changed(&of_grid(g), probe::grid_save).map(|out| saved(&out))
 }

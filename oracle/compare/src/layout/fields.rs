@@ -2,8 +2,9 @@
 
 use egui::layout::Layout;
 use egui::{Align, Direction};
+use packing::{Counts, Packed};
 
-use super::{align_number, direction, layout, layouts};
+use super::{align_number, direction, layout, layouts, of_layout};
 use crate::emath_align::{align, code};
 use crate::probe;
 use crate::tally::Tally;
@@ -29,10 +30,11 @@ fn direction_number(d: Direction) -> u8 {
     }
 }
 
-fn made(call: impl FnOnce(&mut Fields)) -> Fields {
-    let mut out = [u8::MAX; 6];
-    call(&mut out);
-    out
+/// The layout that a call writes.
+fn made(call: impl FnOnce(&mut Counts)) -> Fields {
+    let mut out = Packed::untouched();
+    call(&mut out.counts);
+    out.layout()
 }
 
 pub fn compare(t: &mut Tally) {
@@ -43,32 +45,28 @@ pub fn compare(t: &mut Tally) {
 }
 
 fn constructors(t: &mut Tally) {
-    type Rattle = fn(u8, &mut Fields);
+    type Rattle = extern "C" fn(u8, &mut Counts);
     type Rust = fn(Align) -> Layout;
     let aligned: [(&str, Rattle, Rust); 5] = [
         (
             "Layout::left_to_right",
-            |a, o| probe::layout_left_to_right(a, o),
+            probe::layout_left_to_right,
             Layout::left_to_right,
         ),
         (
             "Layout::right_to_left",
-            |a, o| probe::layout_right_to_left(a, o),
+            probe::layout_right_to_left,
             Layout::right_to_left,
         ),
-        (
-            "Layout::top_down",
-            |a, o| probe::layout_top_down(a, o),
-            Layout::top_down,
-        ),
+        ("Layout::top_down", probe::layout_top_down, Layout::top_down),
         (
             "Layout::top_down_justified",
-            |a, o| probe::layout_top_down_justified(a, o),
+            probe::layout_top_down_justified,
             Layout::top_down_justified,
         ),
         (
             "Layout::bottom_up",
-            |a, o| probe::layout_bottom_up(a, o),
+            probe::layout_bottom_up,
             Layout::bottom_up,
         ),
     ];
@@ -106,37 +104,37 @@ fn constructors(t: &mut Tally) {
 }
 
 fn builders(t: &mut Tally) {
-    type Rattle = fn(&Fields, u8, &mut Fields);
+    type Rattle = extern "C" fn(&Counts, u8, &mut Counts);
     type Rust = fn(Layout, u8) -> Layout;
     let all: [(&str, u8, Rattle, Rust); 5] = [
         (
             "Layout::with_main_wrap",
             2,
-            |l, n, o| probe::layout_with_main_wrap(l, n, o),
+            probe::layout_with_main_wrap,
             |l, n| l.with_main_wrap(n != 0),
         ),
         (
             "Layout::with_main_align",
             3,
-            |l, n, o| probe::layout_with_main_align(l, n, o),
+            probe::layout_with_main_align,
             |l, n| l.with_main_align(align(n)),
         ),
         (
             "Layout::with_cross_align",
             3,
-            |l, n, o| probe::layout_with_cross_align(l, n, o),
+            probe::layout_with_cross_align,
             |l, n| l.with_cross_align(align(n)),
         ),
         (
             "Layout::with_main_justify",
             2,
-            |l, n, o| probe::layout_with_main_justify(l, n, o),
+            probe::layout_with_main_justify,
             |l, n| l.with_main_justify(n != 0),
         ),
         (
             "Layout::with_cross_justify",
             2,
-            |l, n, o| probe::layout_with_cross_justify(l, n, o),
+            probe::layout_with_cross_justify,
             |l, n| l.with_cross_justify(n != 0),
         ),
     ];
@@ -144,54 +142,59 @@ fn builders(t: &mut Tally) {
         t.each(
             name,
             layouts().flat_map(|l| (0..below).map(move |n| (l, n))),
-            |(l, n)| made(|o| rattle(l, *n, o)),
+            |(l, n)| made(|o| rattle(&of_layout(l).counts, *n, o)),
             |(l, n)| fields(rust(layout(l), *n)),
         );
     }
 }
 
 fn flags(t: &mut Tally) {
-    type Rattle = fn(&Fields) -> u8;
+    type Rattle = extern "C" fn(&Counts) -> u8;
     type Rust = fn(&Layout) -> bool;
     let all: [(&str, Rattle, Rust); 7] = [
         (
             "Layout::main_wrap",
-            |l| probe::layout_main_wrap(l),
+            probe::layout_main_wrap,
             Layout::main_wrap,
         ),
         (
             "Layout::cross_justify",
-            |l| probe::layout_cross_justify(l),
+            probe::layout_cross_justify,
             Layout::cross_justify,
         ),
         (
             "Layout::is_horizontal",
-            |l| probe::layout_is_horizontal(l),
+            probe::layout_is_horizontal,
             Layout::is_horizontal,
         ),
         (
             "Layout::is_vertical",
-            |l| probe::layout_is_vertical(l),
+            probe::layout_is_vertical,
             Layout::is_vertical,
         ),
         (
             "Layout::prefer_right_to_left",
-            |l| probe::layout_prefer_right_to_left(l),
+            probe::layout_prefer_right_to_left,
             Layout::prefer_right_to_left,
         ),
         (
             "Layout::horizontal_justify",
-            |l| probe::layout_horizontal_justify(l),
+            probe::layout_horizontal_justify,
             Layout::horizontal_justify,
         ),
         (
             "Layout::vertical_justify",
-            |l| probe::layout_vertical_justify(l),
+            probe::layout_vertical_justify,
             Layout::vertical_justify,
         ),
     ];
     for (name, rattle, rust) in all {
-        t.each(name, layouts(), rattle, |l| u8::from(rust(&layout(l))));
+        t.each(
+            name,
+            layouts(),
+            |l| rattle(&of_layout(l).counts),
+            |l| u8::from(rust(&layout(l))),
+        );
     }
     t.each(
         "Direction::is_horizontal",
@@ -208,41 +211,38 @@ fn flags(t: &mut Tally) {
 }
 
 fn numbers(t: &mut Tally) {
-    type Rattle = fn(&Fields) -> u8;
+    type Rattle = extern "C" fn(&Counts) -> u8;
     type Rust = fn(&Layout) -> u8;
     let all: [(&str, Rattle, Rust); 6] = [
-        (
-            "Layout::main_dir",
-            |l| probe::layout_main_dir(l),
-            |l| direction_number(l.main_dir()),
-        ),
-        (
-            "Layout::cross_align",
-            |l| probe::layout_cross_align(l),
-            |l| align_number(l.cross_align()),
-        ),
+        ("Layout::main_dir", probe::layout_main_dir, |l| {
+            direction_number(l.main_dir())
+        }),
+        ("Layout::cross_align", probe::layout_cross_align, |l| {
+            align_number(l.cross_align())
+        }),
         (
             "Layout::horizontal_placement",
-            |l| probe::layout_horizontal_placement(l),
+            probe::layout_horizontal_placement,
             |l| align_number(l.horizontal_placement()),
         ),
         (
             "Layout::horizontal_align",
-            |l| probe::layout_horizontal_align(l),
+            probe::layout_horizontal_align,
             |l| align_number(l.horizontal_align()),
         ),
         (
             "Layout::vertical_align",
-            |l| probe::layout_vertical_align(l),
+            probe::layout_vertical_align,
             |l| align_number(l.vertical_align()),
         ),
-        (
-            "Layout::align2",
-            |l| probe::layout_align2(l),
-            |l| code(l.align2()),
-        ),
+        ("Layout::align2", probe::layout_align2, |l| code(l.align2())),
     ];
     for (name, rattle, rust) in all {
-        t.each(name, layouts(), rattle, |l| rust(&layout(l)));
+        t.each(
+            name,
+            layouts(),
+            |l| rattle(&of_layout(l).counts),
+            |l| rust(&layout(l)),
+        );
     }
 }

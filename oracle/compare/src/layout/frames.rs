@@ -4,13 +4,13 @@ use egui::layout::driver;
 
 use super::corners::Corners;
 use super::states::Draw;
-use super::{layout, pair};
+use super::{layout, of_layout, of_state, pair};
 use crate::answers::{Expected, Operation};
 use crate::emath_ops::{edges, rect};
 use crate::faults::{
     of_answer, of_cursor, of_frame, of_lengths, of_rect, of_region, of_sizes, rect_of,
 };
-use crate::probe::{self, answered};
+use crate::probe::{self, asked};
 use crate::tally::Tally;
 use crate::values::{Edges, Fields, State, Values};
 
@@ -78,7 +78,7 @@ fn available(t: &mut Tally, corners: &Corners) {
     t.answered(
         &operation("Layout::available_rect_before_wrap", 2_000, &[4, 5, 6]),
         state,
-        |(l, g)| answered(|o| probe::layout_available_rect_before_wrap(l, g, o)),
+        |(l, g)| asked(&of_state(l, g), probe::layout_available_rect_before_wrap),
         |(l, g)| {
             let r = driver::available_rect_before_wrap(layout(l), g);
             let expected = placed(&of_region(l[0], g), r);
@@ -91,7 +91,7 @@ fn available(t: &mut Tally, corners: &Corners) {
     t.answered(
         &operation("Layout::available_size", 500, &[4, 5, 6, 9]),
         state,
-        |(l, g)| answered(|o| probe::layout_available_size(l, g, o)),
+        |(l, g)| asked(&of_state(l, g), probe::layout_available_size),
         |(l, g)| {
             let size = driver::available_size(layout(l), g);
             let size = [size.x, size.y];
@@ -101,7 +101,11 @@ fn available(t: &mut Tally, corners: &Corners) {
     t.answered(
         &operation("Layout::available_from_cursor_max_rect", 500, &[4, 5, 6]),
         cursor_and_max_rect,
-        |(l, c, m)| answered(|o| probe::layout_available_from_cursor_max_rect(l, c, m, o)),
+        |(l, c, m)| {
+            let mut given = of_layout(l);
+            given.put_cursor(c).put_max_rect(m);
+            asked(&given, probe::layout_available_from_cursor_max_rect)
+        },
         |(l, c, m)| {
             let r = driver::available_from_cursor_max_rect(layout(l), rect(c), rect(m));
             placed(&[of_cursor(l[0], c), of_rect(m)], r)
@@ -113,7 +117,11 @@ fn next_frames(t: &mut Tally, corners: &Corners) {
     t.answered(
         &operation("Layout::next_frame", 2_000, &[4, 5, 6, 9]),
         sized_and_spaced,
-        |(l, g, (size, s))| answered(|o| probe::layout_next_frame(l, g, size, s, o)),
+        |(l, g, (size, s))| {
+            let mut given = of_state(l, g);
+            given.put_size(size).put_item_spacing(s);
+            asked(&given, probe::layout_next_frame)
+        },
         |(l, g, (size, s))| {
             let frame = edges(driver::next_frame(layout(l), g, pair(size), pair(s)));
             let [min_rect, max_rect, cursor] = of_region(l[0], g);
@@ -128,7 +136,12 @@ fn next_frames(t: &mut Tally, corners: &Corners) {
     t.answered(
         &operation("Layout::next_frame_ignore_wrap", 500, &[4, 5, 6, 9]),
         sized,
-        |(l, g, size)| answered(|o| probe::layout_next_frame_ignore_wrap(l, g, size, o)),
+        |(l, g, size)| {
+            asked(
+                of_state(l, g).put_size(size),
+                probe::layout_next_frame_ignore_wrap,
+            )
+        },
         |(l, g, size)| {
             let frame = edges(driver::next_frame_ignore_wrap(layout(l), g, pair(size)));
             let [min_rect, max_rect, cursor] = of_region(l[0], g);
@@ -146,7 +159,11 @@ fn widgets(t: &mut Tally) {
     t.answered(
         &operation("Layout::align_size_within_rect", 500, &[4, 5, 6, 9]),
         framed,
-        |(l, f, size)| answered(|o| probe::layout_align_size_within_rect(l, size, f, o)),
+        |(l, f, size)| {
+            let mut given = of_layout(l);
+            given.put_size(size).put_rect(f);
+            asked(&given, probe::layout_align_size_within_rect)
+        },
         |(l, f, size)| {
             let r = layout(l).align_size_within_rect(pair(size), rect(f));
             placed(&[of_sizes(size), of_rect(f)], r)
@@ -155,7 +172,11 @@ fn widgets(t: &mut Tally) {
     t.answered(
         &operation("Layout::justify_and_align", 2_000, &[4, 5, 6, 9]),
         framed,
-        |(l, f, size)| answered(|o| probe::layout_justify_and_align(l, f, size, o)),
+        |(l, f, size)| {
+            let mut given = of_layout(l);
+            given.put_rect(f).put_size(size);
+            asked(&given, probe::layout_justify_and_align)
+        },
         |(l, f, size)| {
             let r = driver::justify_and_align(layout(l), rect(f), pair(size));
             placed(&[of_rect(f), of_sizes(size)], r)
@@ -169,7 +190,9 @@ fn widgets(t: &mut Tally) {
         ),
         sized,
         |(l, g, size)| {
-            answered(|o| probe::layout_next_widget_space_ignore_wrap_justify(l, g, size, o))
+            let mut given = of_state(l, g);
+            given.put_size(size);
+            asked(&given, probe::layout_next_widget_space_ignore_wrap_justify)
         },
         |(l, g, size)| {
             let r = driver::next_widget_space_ignore_wrap_justify(layout(l), g, pair(size));
@@ -180,7 +203,7 @@ fn widgets(t: &mut Tally) {
     t.answered(
         &operation("Layout::next_widget_position", 500, &[4, 5, 6, 9]),
         state,
-        |(l, g)| answered(|o| probe::layout_next_widget_position(l, g, o)),
+        |(l, g)| asked(&of_state(l, g), probe::layout_next_widget_position),
         |(l, g)| {
             let pos = driver::next_widget_position(layout(l), g);
             let pos = [pos.x, pos.y];

@@ -3,13 +3,13 @@
 //! region are compared; a refused call leaves every bit as it was, and the sequence goes on.
 
 use egui::layout::driver;
+use packing::{Counts, Lengths, Packed};
 
 use super::regions::moved;
 use super::states::Draw;
-use super::{layout, pair};
-use crate::answers::{Counts, Expected, Operation};
+use super::{layout, of_state, pair};
+use crate::answers::{self, Expected, Operation};
 use crate::faults::of_lengths;
-use crate::probe::UNTOUCHED;
 use crate::rng::Rng;
 use crate::tally::{Answer, Shown, Tally, say};
 use crate::values::{Fields, State, Values};
@@ -18,45 +18,46 @@ const SEQUENCES: u64 = 100_000;
 /// Each is one `advance_cursor` and one `end_row`.
 const TURNS: u32 = 8;
 
-// It takes numbers and whole arrays only, reads and writes no more than those, and ends: that is
-// proved there, so the call is safe.
+// It takes whole arrays only, reads and writes no more than those, and ends: that is proved there, so
+// the call is safe.
 unsafe extern "C" {
     safe fn lent_edit(
-        layout: &Fields,
-        region: &State,
-        amount: f32,
-        spacing: &[f32; 2],
+        lengths: &Lengths,
+        counts: &Counts,
         numbers: &mut [u8; 2],
-        advanced: &mut State,
-        ended: &mut State,
+        advanced: &mut Lengths,
+        ended: &mut Lengths,
     );
 }
 
 fn edit(l: &Fields, region: &State, amount: f32, spacing: &[f32; 2]) -> [Answer<State>; 2] {
+    let mut given = of_state(l, region);
+    given.put_length(amount).put_item_spacing(spacing);
     let mut numbers = [u8::MAX; 2];
-    let (mut advanced, mut ended) = ([UNTOUCHED; 12], [UNTOUCHED; 12]);
+    let (mut advanced, mut ended) = (Packed::untouched(), Packed::untouched());
     lent_edit(
-        l,
-        region,
-        amount,
-        spacing,
+        &given.lengths,
+        &given.counts,
         &mut numbers,
-        &mut advanced,
-        &mut ended,
+        &mut advanced.lengths,
+        &mut ended.lengths,
     );
     let [first, second] = numbers;
-    [(first, advanced), (second, ended)].map(|(number, value)| Answer { number, value })
+    [(first, advanced), (second, ended)].map(|(number, out)| Answer {
+        number,
+        value: out.region(),
+    })
 }
 
 /// One of the two calls: its name, and how often each number was expected of it.
 struct Call {
     name: &'static str,
-    counts: Counts,
+    counts: answers::Counts,
 }
 
 impl Call {
     fn new(name: &'static str) -> Self {
-        let counts = Counts::default();
+        let counts = answers::Counts::default();
         Self { name, counts }
     }
 

@@ -4,11 +4,11 @@ use egui::layout::driver;
 
 use super::corners::Corners;
 use super::states::Draw;
-use super::{layout, pair};
+use super::{layout, of_layout, of_state, pair};
 use crate::answers::{Expected, Operation};
 use crate::emath_ops::{edges, rect};
 use crate::faults::{self, of_answer, of_cursor, of_lengths, of_rect, of_region};
-use crate::probe::{self, answered};
+use crate::probe::{self, asked};
 use crate::tally::Tally;
 use crate::values::{Edges, Fields, State, Values};
 
@@ -105,7 +105,7 @@ fn made(t: &mut Tally, corners: &Corners) {
             numbers: &[4, 5, 6],
         },
         max_rect,
-        |(l, r)| answered(|o| probe::layout_initial_cursor(l, r, o)),
+        |(l, r)| asked(of_layout(l).put_max_rect(r), probe::layout_initial_cursor),
         |(l, r)| {
             let cursor = edges(driver::initial_cursor(layout(l), rect(r)));
             Expected::made(&[of_rect(r)], of_answer(of_cursor(l[0], &cursor)), cursor)
@@ -114,7 +114,10 @@ fn made(t: &mut Tally, corners: &Corners) {
     t.answered(
         &operation("Layout::region_from_max_rect", 2_000),
         max_rect,
-        |(l, r)| answered(|o| probe::layout_region_from_max_rect(l, r, o)),
+        |(l, r)| {
+            let mut given = of_layout(l);
+            probe::region_after(given.put_max_rect(r), probe::layout_region_from_max_rect)
+        },
         |(l, r)| {
             let new = driver::region_from_max_rect(layout(l), rect(r));
             let expected = Expected::made(&[of_rect(r)], of_new(l[0], &new), new);
@@ -136,7 +139,11 @@ fn expanded(t: &mut Tally) {
     t.answered(
         &operation("Region::expand_to_include_rect"),
         included,
-        |(l, g, r)| answered(|o| probe::layout_region_expand_to_include_rect(l[0], g, r, o)),
+        |(l, g, r)| {
+            let mut given = of_state(l, g);
+            given.put_rect(r);
+            probe::region_after(&given, probe::layout_region_expand_to_include_rect)
+        },
         |(l, g, r)| {
             moved(
                 l[0],
@@ -149,7 +156,11 @@ fn expanded(t: &mut Tally) {
     t.answered(
         &operation("Region::expand_to_include_x"),
         lengthened,
-        |(l, g, x)| answered(|o| probe::layout_region_expand_to_include_x(l[0], g, *x, o)),
+        |(l, g, x)| {
+            let mut given = of_state(l, g);
+            given.put_length(*x);
+            probe::region_after(&given, probe::layout_region_expand_to_include_x)
+        },
         |(l, g, x)| {
             moved(
                 l[0],
@@ -162,7 +173,11 @@ fn expanded(t: &mut Tally) {
     t.answered(
         &operation("Region::expand_to_include_y"),
         lengthened,
-        |(l, g, y)| answered(|o| probe::layout_region_expand_to_include_y(l[0], g, *y, o)),
+        |(l, g, y)| {
+            let mut given = of_state(l, g);
+            given.put_length(*y);
+            probe::region_after(&given, probe::layout_region_expand_to_include_y)
+        },
         |(l, g, y)| {
             moved(
                 l[0],
@@ -178,7 +193,9 @@ fn changed(t: &mut Tally, corners: &Corners) {
     t.answered(
         &operation("Layout::advance_cursor", 500),
         lengthened,
-        |(l, g, x)| answered(|o| probe::layout_advance_cursor(l, g, *x, o)),
+        |(l, g, x)| {
+            probe::region_after(of_state(l, g).put_length(*x), probe::layout_advance_cursor)
+        },
         |(l, g, x)| {
             let new = driver::advance_cursor(layout(l), g, *x);
             moved(l[0], of_lengths(&[*x]), g, new)
@@ -187,7 +204,7 @@ fn changed(t: &mut Tally, corners: &Corners) {
     t.answered(
         &operation("Layout::end_row", 500),
         spaced,
-        |(l, g, s)| answered(|o| probe::layout_end_row(l, g, s, o)),
+        |(l, g, s)| probe::region_after(of_state(l, g).put_item_spacing(s), probe::layout_end_row),
         |(l, g, s)| {
             let new = driver::end_row(layout(l), g, pair(s));
             let expected = moved(l[0], of_lengths(s), g, new);
@@ -200,7 +217,9 @@ fn changed(t: &mut Tally, corners: &Corners) {
     t.answered(
         &operation("Layout::set_row_height", 500),
         lengthened,
-        |(l, g, x)| answered(|o| probe::layout_set_row_height(l, g, *x, o)),
+        |(l, g, x)| {
+            probe::region_after(of_state(l, g).put_length(*x), probe::layout_set_row_height)
+        },
         |(l, g, x)| {
             let new = driver::set_row_height(layout(l), g, *x);
             moved(l[0], of_lengths(&[*x]), g, new)
@@ -212,7 +231,12 @@ fn advanced(t: &mut Tally, corners: &Corners) {
     t.answered(
         &operation("Layout::advance_after_rects", 2_000),
         advance,
-        |((l, c), (f, w), s)| answered(|o| probe::layout_advance_after_rects(l, c, f, w, s, o)),
+        |((l, c), (f, w), s)| {
+            let mut given = of_layout(l);
+            given.put_cursor(c).put_item_spacing(s);
+            given.put_rect(f).put_widget_rect(w);
+            asked(&given, probe::layout_advance_after_rects)
+        },
         |((l, c), (f, w), s)| {
             let l_ = layout(l);
             let new = driver::advance_after_rects(l_, rect(c), rect(f), rect(w), pair(s));

@@ -1,13 +1,12 @@
 //! The entry points for a sheet's text, by the names they have in crates/probe. A slice goes there
 //! as a pointer and a length, and a bool comes back as a byte.
 
+#[cfg(feature = "placer")]
+use packing::{Counts, Lengths, Packed};
+
 use super::answers::{Checked, FieldRead, RecordRead, Written};
 #[cfg(feature = "placer")]
 use super::driver::{Given, Passed};
-#[cfg(feature = "placer")]
-use crate::grid::port::{NOWHERE, UNTOUCHED_MEMORY};
-#[cfg(feature = "placer")]
-use crate::probe::UNTOUCHED;
 
 /// What a list is printed into: room for 512 W, P, 32 C and 128 D.
 #[cfg(feature = "placer")]
@@ -28,17 +27,12 @@ unsafe extern "C" {
     fn sheet_pass(
         text: *const u8,
         len: usize,
-        flags: &[u8; 2],
-        widths: &[f32; 32],
-        heights: &[f32; 128],
-        counts: &[usize; 2],
+        lengths: &Lengths,
+        counts: &Counts,
         out: *mut i32,
         room: usize,
-        plate: &mut [f32; 4],
-        out_widths: &mut [f32; 32],
-        out_heights: &mut [f32; 128],
-        out_counts: &mut [usize; 2],
-        places: &mut [usize; 2],
+        out_lengths: &mut Lengths,
+        out_counts: &mut Counts,
     ) -> u8;
     #[cfg(feature = "placer")]
     fn listing_print(text: *const u8, len: usize, out: &mut [u8; LIST_ROOM]) -> usize;
@@ -100,31 +94,27 @@ pub fn write_line(
 #[cfg(feature = "placer")]
 pub fn pass(given: &Given) -> Passed {
     let mut out = given.out.clone();
-    let (mut plate, mut memory, mut places) = ([UNTOUCHED; 4], UNTOUCHED_MEMORY, [NOWHERE; 2]);
+    let (mut packed, mut after) = (Packed::unfilled(), Packed::untouched());
+    packed.put_memory(&given.memory).put_known(given.known);
+    packed.put_sizing_pass(given.sizing);
     let number = unsafe {
         sheet_pass(
             given.text.as_ptr(),
             given.text.len(),
-            &[given.known, given.sizing].map(u8::from),
-            &given.memory.widths,
-            &given.memory.heights,
-            &given.memory.counts,
+            &packed.lengths,
+            &packed.counts,
             out.as_mut_ptr(),
             out.len(),
-            &mut plate,
-            &mut memory.widths,
-            &mut memory.heights,
-            &mut memory.counts,
-            &mut places,
+            &mut after.lengths,
+            &mut after.counts,
         )
     };
-    let [record, save] = places;
     Passed {
         number,
-        record,
-        plate,
-        memory,
-        save: save as u8,
+        record: after.place(),
+        plate: after.rect(),
+        memory: after.memory(),
+        save: after.save(),
         out,
     }
 }

@@ -54,7 +54,7 @@ module _ (text : List ℕ) (known : Bool) (m : Memory) (sizing : Bool) where
 
 pub settled-fit : (text : List ℕ) (out : List ℤ) → Fit (settled text out .outcome)
 unfolding settled settledFrom
-settled-fit text out = go (eqb (first .outcome .number) 0 && sheetIn text .«has_grid»)
+settled-fit text out = go (eqb (first .outcome .number) 0 && sheetIn text .heading .«has_grid»)
   where
     first : LaidOut
     first = laid text false emptyMemory true out

@@ -65,7 +65,10 @@ impl Memory {
         ensures { λ a. ⌜ a ≡ checkedSetMinRowHeight self row height ⌝ }
     {
         let new = memories::set_min_row_height(self, row, height);
-        let rest = lesser_number(extent_fault(height), number_when(MAX_ROWS <= row, GRID_FULL));
+        let rest = lesser_number(
+            extent_fault(height),
+            number_when(MAX_ROWS <= row, GRID_FULL),
+        );
         let before = lesser_number(memory_fault(self), rest);
         memory_answer(
             or_else(before, outside_domain(memory_fault(new))),

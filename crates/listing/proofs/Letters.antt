@@ -3,13 +3,11 @@ use Prim.Native.Nat.{ℕ}
 use mathlib.Core.Path.{_≡_, refl, sym}
 use mathlib.Core.Bool.{Bool, true, false, cond, _&&_}
 use mathlib.Core.List.{List}
-use native.Mathlib.Omega.{arith}
 use lib.Dec.{eqb}
-use lib.IntN.{pos}
-use borrow.Author.Tests.{eqb-true}
-use Rattle.records.specs.Parts.{letter, ends, lengthIn, isLength, lengthValue, countIn, isCount}
-use Rattle.records.specs.Records.{pick, pairFits, layoutFits, headingRecord, maximaFit, isColumns, gridRecord, stepRecord, widgetRecord, singleRecord, recordOf}
-use Rattle.records.specs.Sheets.{placed, widget, widgetStep}
+use Rattle.records.specs.Parts.{letter, ends, lengthIn, isLength, lengthValue}
+use Rattle.records.specs.Records.{pick, stepRecord, widgetRecord, singleRecord, recordOf}
+use Rattle.records.specs.Sheets.{widget, widgetStep}
+use Rattle.records.specs.Implementation.Keeping.{isStep}
 use Rattle.records.specs.declared.Step.{Step}
 use Rattle.records.specs.declared.Step.the-variants.{Widget, Space, RowHeight, MaxWidth, MaxHeight, MinWidth, MinHeight, RowEnd}
 use Rattle.records.specs.declared.Record.{Record}
@@ -25,14 +23,6 @@ data Holds (w : ℕ) : Record → Type 0 where
 either : {w : ℕ} (b : Bool) {x y : Record} → Holds w x → Holds w y → Holds w (pick b x y)
 either true p q = p
 either false p q = q
-
-heading-none : (s : List ℕ) → Holds 0 (headingRecord s)
-unfolding headingRecord widget
-heading-none s = either (layoutFits s && (pairFits s 6 && pairFits s 8) && pairFits s 10 && ends s 12) (so refl) wrong
-
-grid-none : (s : List ℕ) → Holds 0 (gridRecord s)
-unfolding gridRecord widget
-grid-none s = either (pairFits s 0 && maximaFit s && isColumns (countIn s 4 32) && isCount (countIn s 5 127) (pos 0) && ends s 6) (so refl) wrong
 
 step-holds : (s : List ℕ) (n : ℕ) (b : Bool) (st : Step) → Holds (widgetStep st) (stepRecord s n b st)
 unfolding stepRecord widget
@@ -57,25 +47,16 @@ single-none s b =
 -- by its letter
 by-letter : (s : List ℕ) → Holds (mark s) (recordOf s)
 unfolding recordOf mark widgetStep
-by-letter s = go (letter s) refl
+by-letter s = go (eqb (letter s) 87)
   where
-    go : (l : ℕ) → letter s ≡ l
-        → Holds (cond (eqb l 87) 1 0) (pick (eqb l 72) (headingRecord s) (pick (eqb l 71) (gridRecord s) (pick (eqb l 87) (widgetRecord s) (pick (eqb l 69) (stepRecord s 0 true RowEnd) (singleRecord s l)))))
-    go l e = on (eqb l 72) (eqb l 71) (eqb l 87) refl refl refl
-      where
-        on : (a b c : Bool) → eqb l 72 ≡ a → eqb l 71 ≡ b → eqb l 87 ≡ c
-            → Holds (cond c 1 0) (pick a (headingRecord s) (pick b (gridRecord s) (pick c (widgetRecord s) (pick (eqb l 69) (stepRecord s 0 true RowEnd) (singleRecord s l)))))
-        on true b true p q r = absurd (omega (arith, eqb-true l 72 p, eqb-true l 87 r))
-        on true b false p q r = heading-none s
-        on false true true p q r = absurd (omega (arith, eqb-true l 71 q, eqb-true l 87 r))
-        on false true false p q r = grid-none s
-        on false false true p q r = widget-one s
-        on false false false p q r = either (eqb l 69) (step-holds s 0 true RowEnd) (single-none s l)
+    go : (c : Bool) → Holds (cond c 1 0) (pick c (widgetRecord s) (pick (eqb (letter s) 69) (stepRecord s 0 true RowEnd) (singleRecord s (letter s))))
+    go true = widget-one s
+    go false = either (eqb (letter s) 69) (step-holds s 0 true RowEnd) (single-none s (letter s))
 
-pub mark-is : (k : ℕ) (s : List ℕ) → placed k (recordOf s) ≡ true → mark s ≡ widget (recordOf s)
-unfolding placed
-mark-is k s h = go (recordOf s) (by-letter s) h
+pub mark-is : (s : List ℕ) → isStep (recordOf s) ≡ true → mark s ≡ widget (recordOf s)
+unfolding isStep
+mark-is s h = go (recordOf s) (by-letter s) h
   where
-    go : (r : Record) → Holds (mark s) r → placed k r ≡ true → mark s ≡ widget r
+    go : (r : Record) → Holds (mark s) r → isStep r ≡ true → mark s ≡ widget r
     go r (so e) h = sym e
     go Wrong wrong h = no-such h

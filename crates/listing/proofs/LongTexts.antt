@@ -8,16 +8,17 @@ use borrow.Author.Tests.{leb-true, leb-false}
 use lib.Dec.{leb}
 use lib.ListN.{length, take}
 use lib.Seq.{take-all}
+use Rattle.records.specs.Headings.{headingIn}
 use Rattle.records.specs.Sheets.{records, checked}
 use Rattle.records.specs.declared.Checked.{Checked}
 use Rattle.records.specs.declared.Checked.the-variants.{Accepted, Refused}
 use Rattle.records.proofs.Prefixes.{long-text}
 use Rattle.listing.specs.Lists.{answered, listOf}
 
-same-records : (s t : List ℕ) → records s ≡ records t → (c : Checked) → answered c s ≡ answered c t
+same-records : (s t : List ℕ) → headingIn s ≡ headingIn t → records s ≡ records t → (c : Checked) → answered c s ≡ answered c t
 unfolding answered
-same-records s t e (Refused n at) = refl
-same-records s t e (Accepted r w) = rw e
+same-records s t h e (Refused n at) = refl
+same-records s t h e (Accepted r w) = rw (e, h)
 
 pub long-list : (text : List ℕ) → listOf (take 50177 text) ≡ listOf text
 unfolding listOf
@@ -28,4 +29,4 @@ long-list text = go (leb (length text) 50177) refl
     go false e =
         let l = leb-false (length text) 50177 e in
         let h = long-text text 4096 (omega (arith, l)) in
-        ap (λ (c : Checked). answered c (take 50177 text)) (h .0) ∙ same-records (take 50177 text) text (h .1) (checked text 4096)
+        ap (λ (c : Checked). answered c (take 50177 text)) (h .check) ∙ same-records (take 50177 text) text (h .heading) (h .steps) (checked text 4096)

@@ -36,7 +36,7 @@ pub empty-whole : WholeMemory emptyMemory
 empty-whole = listed-whole [] [] emptyMemory (listed-empty 5)
 
 -- ---- with a grid
-module _ (s : Sheet) (w : WholeSheet 5 s) (g : s .«has_grid» ≡ true) (one : passes 5 s emptyMemory 0 .number ≡ 0) where
+module _ (s : Sheet) (w : WholeSheet 5 s) (g : s .heading .«has_grid» ≡ true) (one : passes 5 s emptyMemory 0 .number ≡ 0) where
   pub first-whole : WholeMemory (passes 5 s emptyMemory 0 .memory)
   first-whole = let b = first-gives-back 5 (omega arith) s w g emptyMemory one in listed-whole _ (b .0) _ (b .2)
 
@@ -48,13 +48,13 @@ given-back : (m : Memory) (r : Ran) → outcomeOf false m r .memory ≡ m
 unfolding outcomeOf remembered
 given-back m r = go (eqb (r .number) 0)
   where
-    go : (b : Bool) → cond b (record { number = 0; at = 0; cells = r .cells; plate = plateOf (r .placer); memory = remembered false m (r .placer) .memory; save = remembered false m (r .placer) .save }) (refusedAt (r .number) (r .at) (r .cells) m) .memory ≡ m
+    go : (b : Bool) → cond b (record { number = 0; at = 0; cells = r .cells; plate = plateOf r; memory = remembered false m (r .placer) .memory; save = remembered false m (r .placer) .save }) (refusedAt (r .number) (r .at) (r .cells) m) .memory ≡ m
     go true = refl
     go false = refl
 
 outcome-memory : (grid : Bool) (m : Memory) (r : Ran) → grid ≡ false → outcomeOf grid m r .memory ≡ m
 outcome-memory grid m r e = rw e (given-back m r)
 
-pub plain-memory : (k : ℕ) (s : Sheet) (known : Bool) (m : Memory) (sizing : Bool) → s .«has_grid» ≡ false → pass k s known m sizing .memory ≡ m
+pub plain-memory : (k : ℕ) (s : Sheet) (known : Bool) (m : Memory) (sizing : Bool) → s .heading .«has_grid» ≡ false → pass k s known m sizing .memory ≡ m
 unfolding pass
-plain-memory k s known m sizing g = outcome-memory (s .«has_grid») m (begun 1 (headed k (s .heading)) (ranWith k s known m sizing (headed k (s .heading) .placer))) g
+plain-memory k s known m sizing g = outcome-memory (s .heading .«has_grid») m (begun 1 (headed k (s .heading)) (ranWith k s known m sizing (headed k (s .heading) .placer))) g

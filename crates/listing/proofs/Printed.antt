@@ -13,7 +13,9 @@ use Rattle.layout.specs.Steps.{WholeRect}
 use Rattle.grid.specs.Memories.{emptyMemory}
 use Rattle.grid.specs.declared.Memory.{Memory}
 use Rattle.text.specs.Lines.{line}
+use Rattle.records.specs.Headings.{hasGrid, headingIn}
 use Rattle.records.specs.Sheets.{records, checked}
+use Rattle.records.proofs.Prefixes.{few-records}
 use Rattle.records.specs.declared.Checked.{Checked}
 use Rattle.records.specs.declared.Checked.the-variants as checked-of
 use Rattle.sheet.specs.Pass.{Outcome, pass}
@@ -26,13 +28,13 @@ use Rattle.sheet.specs.declared.Laid.{Laid}
 use Rattle.sheet.specs.declared.Laid.the-variants.{Accepted, Refused}
 use Rattle.sheet.specs.declared.Passed.{Passed}
 use Rattle.sheet.proofs.Slices as sheet-slices
-use Rattle.sheet.proofs.Slices.{room-there}
+use Rattle.sheet.proofs.Slices.{room-there, clear}
 use Rattle.pass_laws.proofs.TextTicks.{text-whole}
 use Rattle.pass_laws.proofs.WholeEdges.{whole-pass}
-use Rattle.sheet.proofs.WalkedPasses.{no-such, no-fault}
+use Rattle.sheet.proofs.WalkedPasses.{no-such}
 use Rattle.sheet.proofs.Shown.{Shown, shown, no-number, some-number, pass-all}
 use Rattle.listing.specs.Lists.{printed, widgetLines, entryLines, memoryLines, acceptedLines, refusalLine, outcomeLines, answered, listOf, listIn}
-use Rattle.listing.specs.Implementation.Putting.{Put, putAccepted, WholeMemory, isAccepted, hasGrid, printable, Printable, putPassed, numberOf}
+use Rattle.listing.specs.Implementation.Putting.{Put, putAccepted, WholeMemory, isAccepted, printable, Printable, putPassed, numberOf}
 use Rattle.listing.proofs.Puts.{Within}
 use Rattle.listing.proofs.Written as written
 use Rattle.listing.proofs.Written.{after}
@@ -42,7 +44,7 @@ use Rattle.listing.proofs.Places.{all-controls, grid-there, laid-few}
 -- the lines of one pass's outcome
 abbrev pub told : Checked → List ℕ → Outcome → List ℕ
 told (checked-of.Refused n at) text o = refusalLine n at
-told (checked-of.Accepted r w) text o = outcomeLines (sheetIn text .«has_grid») (records text) o
+told (checked-of.Accepted r w) text o = outcomeLines (headingIn text) (records text) o
 
 list-told : (text : List ℕ) → told (checked text 4096) text (printed (sheetIn text)) ≡ listOf text
 unfolding listOf answered
@@ -103,17 +105,17 @@ module _ (text : List ℕ) (known : Bool) (m : Memory) (sizing : Bool) (out : Li
     module _ (full : length out ≡ 4096) (P : Put) (start : P .at ≡ 0) (room : length (P .out) ≡ 40802) where
       -- an accepted pass
       whole-list : (r w : ℕ) → checked text 4096 ≡ checked-of.Accepted r w → Shown text known m sizing p exit
-          → putAccepted text exit (p .plate) (p .memory) P ≡ after P (widgetLines 1 (records text) (o .cells) ++ (line 80 (edges (inTicks 5 (o .plate))) ++ memoryLines (o .memory)))
+          → putAccepted text exit (p .plate) (p .memory) P ≡ after P (widgetLines (headingIn text .records + 1) (records text) (o .cells) ++ (line 80 (edges (inTicks 5 (o .plate))) ++ memoryLines (o .memory)))
       whole-list r w e s =
-          let v = no-fault text 4096 r w e in
-          let a = all-controls text v in
+          let v = clear text 4096 r w e in
+          let a = all-controls text in
           let b = pass-all 5 (sheetIn text) known m sizing (s .number) in
           let d = sheet-slices.pass-few 5 (sheetIn text) known m sizing in
           let t = room-there text 4096 r w e in
           let i = whole-pass 5 (omega arith) (sheetIn text) (text-whole text) known m sizing in
           rw (s .plate, s .memory)
           (written.put-accepted text exit (o .plate) (o .memory) P (o .cells)
-          (record { well = v .well; from = omega arith; few = omega arith; others = s .others; there = s .slice; whole = i .cells; all = omega (arith, a, b, d); room = omega (arith, a, d, t, start, room) })
+          (record { well = v .steps; from = omega arith; few = omega (arith, few-records text); others = s .others; there = s .slice; whole = i .cells; all = omega (arith, a, b, d); room = omega (arith, a, d, t, start, room) })
           (i .plate) (f (s .number)) (omega (arith, start, room)) (omega (arith, a, d, t)))
 
       -- 1 to 3, or the pass's own outcome
@@ -128,25 +130,25 @@ module _ (text : List ℕ) (known : Bool) (m : Memory) (sizing : Bool) (out : Li
           rw l (written.put-refusal n at P (rw l at few) (refused-at n at l) (omega (arith, start, room)))
 
       -- without a grid there is no line of the memory
-      memory-lines : (sheetIn text .«has_grid» ≡ false → m ≡ emptyMemory) → memoryLines (o .memory) ≡ cond (sheetIn text .«has_grid») (memoryLines (o .memory)) []
-      memory-lines g = go (sheetIn text .«has_grid») refl
+      memory-lines : (sheetIn text .heading .«has_grid» ≡ false → m ≡ emptyMemory) → memoryLines (o .memory) ≡ cond (sheetIn text .heading .«has_grid») (memoryLines (o .memory)) []
+      memory-lines g = go (sheetIn text .heading .«has_grid») refl
         where
-          go : (b : Bool) → sheetIn text .«has_grid» ≡ b → memoryLines (o .memory) ≡ cond b (memoryLines (o .memory)) []
+          go : (b : Bool) → sheetIn text .heading .«has_grid» ≡ b → memoryLines (o .memory) ≡ cond b (memoryLines (o .memory)) []
           go true e = refl
           go false e = ap (λ (x : Memory). memoryLines x) (plain-memory 5 (sheetIn text) known m sizing e ∙ g e) ∙ no-entries
 
-      module _ (g : sheetIn text .«has_grid» ≡ false → m ≡ emptyMemory) (few : numberOf (p .laid) < 256) where
+      module _ (g : sheetIn text .heading .«has_grid» ≡ false → m ≡ emptyMemory) (few : numberOf (p .laid) < 256) where
         abbrev Told : List ℕ → Type 0
         Told l = putPassed (p .laid) text exit p P ≡ after P l
 
-        told-accepted : (r w : ℕ) → checked text 4096 ≡ checked-of.Accepted r w → o .number ≡ 0 → p .laid ≡ Accepted → Told (outcomeLines (sheetIn text .«has_grid») (records text) o)
+        told-accepted : (r w : ℕ) → checked text 4096 ≡ checked-of.Accepted r w → o .number ≡ 0 → p .laid ≡ Accepted → Told (outcomeLines (headingIn text) (records text) o)
         unfolding putPassed outcomeLines acceptedLines
         told-accepted r w e z l =
             rw (l, eq-eqb (o .number) 0 z)
             (whole-list r w e (shown text known m sizing out p exit c l)
-            ∙ ap (λ (x : List ℕ). after P (widgetLines 1 (records text) (o .cells) ++ (line 80 (edges (inTicks 5 (o .plate))) ++ x))) (memory-lines g))
+            ∙ ap (λ (x : List ℕ). after P (widgetLines (headingIn text .records + 1) (records text) (o .cells) ++ (line 80 (edges (inTicks 5 (o .plate))) ++ x))) (memory-lines g))
 
-        told-refused : (n : ℕ) → o .number ≡ suc n → p .laid ≡ laidOf (o .number) (o .at) → Told (outcomeLines (sheetIn text .«has_grid») (records text) o)
+        told-refused : (n : ℕ) → o .number ≡ suc n → p .laid ≡ laidOf (o .number) (o .at) → Told (outcomeLines (headingIn text) (records text) o)
         unfolding outcomeLines
         told-refused n z l = rw (ne-eqb (o .number) 0 (λ (e : o .number ≡ 0). omega (arith, e, z))) (refused-line (o .number) (o .at) (omega (arith, z)) l few)
 
@@ -155,7 +157,7 @@ module _ (text : List ℕ) (known : Bool) (m : Memory) (sizing : Bool) (out : Li
         told-by (checked-of.Refused n at) e l = refused-line n at (some-number text 4096 n at e) l few
         told-by (checked-of.Accepted r w) e l = on (o .number) refl
           where
-            on : (n : ℕ) → o .number ≡ n → Told (outcomeLines (sheetIn text .«has_grid») (records text) o)
+            on : (n : ℕ) → o .number ≡ n → Told (outcomeLines (headingIn text) (records text) o)
             on zero z = told-accepted r w e z (l ∙ said-accepted (o .number) (o .at) z)
             on (suc n) z = told-refused n z l
 
@@ -165,14 +167,14 @@ module _ (text : List ℕ) (known : Bool) (m : Memory) (sizing : Bool) (out : Li
 -- ---- the program's one pass, or two
 module _ (text : List ℕ) (out between : List ℤ) (p : Passed) (full : length out ≡ 4096) (c : Called text false emptyMemory true out p between) where
   -- without a grid the first pass is printed, and so it is where it is refused
-  memory-first : (b : Bool) → sheetIn text .«has_grid» ≡ b → passes 5 (sheetIn text) emptyMemory 0 .number ≡ 0 → WholeMemory (passes 5 (sheetIn text) emptyMemory 0 .memory)
+  memory-first : (b : Bool) → sheetIn text .heading .«has_grid» ≡ b → passes 5 (sheetIn text) emptyMemory 0 .number ≡ 0 → WholeMemory (passes 5 (sheetIn text) emptyMemory 0 .memory)
   unfolding passes
   memory-first true g z = first-whole (sheetIn text) (text-whole text) g z
   memory-first false g z = subst WholeMemory (sym (plain-memory 5 (sheetIn text) false emptyMemory true g)) empty-whole
 
   pub first-prints : Printable p
   unfolding passes
-  first-prints = can-print text false emptyMemory true out p between c (memory-first (sheetIn text .«has_grid») refl)
+  first-prints = can-print text false emptyMemory true out p between c (memory-first (sheetIn text .heading .«has_grid») refl)
 
   laid-by : (k : Checked) → checked text 4096 ≡ k → p .laid ≡ laidOf (judged k text false emptyMemory true out .outcome .number) (judged k text false emptyMemory true out .outcome .at)
   unfolding laid
@@ -185,15 +187,15 @@ module _ (text : List ℕ) (out between : List ℤ) (p : Passed) (full : length 
   laid-first r w e = laid-by (checked-of.Accepted r w) e
 
   -- whether the code goes on is whether the rule does
-  goes-on : (r w : ℕ) → checked text 4096 ≡ checked-of.Accepted r w → isAccepted (p .laid) && hasGrid text ≡ eqb (passes 5 (sheetIn text) emptyMemory 0 .number) 0 && sheetIn text .«has_grid»
-  goes-on r w e = rw (laid-first r w e, accepted-is (passes 5 (sheetIn text) emptyMemory 0 .number) (passes 5 (sheetIn text) emptyMemory 0 .at), grid-there text (no-fault text 4096 r w e))
+  goes-on : (r w : ℕ) → checked text 4096 ≡ checked-of.Accepted r w → isAccepted (p .laid) && hasGrid text ≡ eqb (passes 5 (sheetIn text) emptyMemory 0 .number) 0 && sheetIn text .heading .«has_grid»
+  goes-on r w e = rw (laid-first r w e, accepted-is (passes 5 (sheetIn text) emptyMemory 0 .number) (passes 5 (sheetIn text) emptyMemory 0 .at), grid-there text)
 
   which : (b : Bool) → isAccepted (p .laid) && hasGrid text ≡ b → (k : Checked) → checked text 4096 ≡ k
       → told k text (cond b (passes 5 (sheetIn text) emptyMemory 1) (passes 5 (sheetIn text) emptyMemory 0)) ≡ told k text (printed (sheetIn text))
   unfolding printed
   which b h (checked-of.Refused n at) e = refl
   which b h (checked-of.Accepted r w) e =
-      ap (λ (x : Bool). outcomeLines (sheetIn text .«has_grid») (records text) (cond x (passes 5 (sheetIn text) emptyMemory 1) (passes 5 (sheetIn text) emptyMemory 0))) (sym h ∙ goes-on r w e)
+      ap (λ (x : Bool). outcomeLines (headingIn text) (records text) (cond x (passes 5 (sheetIn text) emptyMemory 1) (passes 5 (sheetIn text) emptyMemory 0))) (sym h ∙ goes-on r w e)
 
   which-list : (b : Bool) → isAccepted (p .laid) && hasGrid text ≡ b → told (checked text 4096) text (cond b (passes 5 (sheetIn text) emptyMemory 1) (passes 5 (sheetIn text) emptyMemory 0)) ≡ listOf text
   which-list b h = which b h (checked text 4096) refl ∙ list-told text
@@ -201,12 +203,12 @@ module _ (text : List ℕ) (out between : List ℤ) (p : Passed) (full : length 
   pub first-list : (P : Put) → P .at ≡ 0 → length (P .out) ≡ 40802 → isAccepted (p .laid) && hasGrid text ≡ false → numberOf (p .laid) < 256 → putPassed (p .laid) text between p P ≡ after P (listOf text)
   unfolding passes
   first-list P start room h few =
-      told-call text false emptyMemory true out p between c (memory-first (sheetIn text .«has_grid») refl) full P start room (λ (e : sheetIn text .«has_grid» ≡ false). refl) few
+      told-call text false emptyMemory true out p between c (memory-first (sheetIn text .heading .«has_grid») refl) full P start room (λ (e : sheetIn text .heading .«has_grid» ≡ false). refl) few
       ∙ ap (λ (l : List ℕ). after P l) (which-list false h)
 
   -- a second pass, over the same slice
   record Again : Type 0 where
-    pub grid : sheetIn text .«has_grid» ≡ true
+    pub grid : sheetIn text .heading .«has_grid» ≡ true
     pub number : passes 5 (sheetIn text) emptyMemory 0 .number ≡ 0
     pub memory : p .memory ≡ passes 5 (sheetIn text) emptyMemory 0 .memory
 
@@ -227,7 +229,7 @@ module _ (text : List ℕ) (out between : List ℤ) (p : Passed) (full : length 
 
       go : (k : Checked) → checked text 4096 ≡ k → Again
       go (checked-of.Refused n at) e = absurd (omega (arith, no-number n at (sym (laid-by (checked-of.Refused n at) e) ∙ l), some-number text 4096 n at e))
-      go (checked-of.Accepted r w) e = record { grid = sym (grid-there text (no-fault text 4096 r w e)) ∙ accepted-laid (p .laid) (hasGrid text) h .1; number = s .number; memory = s .memory }
+      go (checked-of.Accepted r w) e = record { grid = sym (grid-there text) ∙ accepted-laid (p .laid) (hasGrid text) h .1; number = s .number; memory = s .memory }
 
   module _ (exit : List ℤ) (q : Passed) (kept : length between ≡ 4096) (d : Called text true (p .memory) false between q exit) (h : isAccepted (p .laid) && hasGrid text ≡ true) where
     with-first : Called text true (passes 5 (sheetIn text) emptyMemory 0 .memory) false between q exit
@@ -243,7 +245,7 @@ module _ (text : List ℕ) (out between : List ℤ) (p : Passed) (full : length 
     pub second-list : (P : Put) → P .at ≡ 0 → length (P .out) ≡ 40802 → numberOf (q .laid) < 256 → putPassed (q .laid) text exit q P ≡ after P (listOf text)
     unfolding passes
     second-list P start room few =
-        told-call text true (passes 5 (sheetIn text) emptyMemory 0 .memory) false between q exit with-first memory-second kept P start room (λ (e : sheetIn text .«has_grid» ≡ false). no-such (sym e ∙ again h .grid)) few
+        told-call text true (passes 5 (sheetIn text) emptyMemory 0 .memory) false between q exit with-first memory-second kept P start room (λ (e : sheetIn text .heading .«has_grid» ≡ false). no-such (sym e ∙ again h .grid)) few
         ∙ ap (λ (l : List ℕ). after P l) (which-list true h)
 
 -- ---- the length, and the slice

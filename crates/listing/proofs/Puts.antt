@@ -15,6 +15,8 @@ use lib.Ieee.{Float, nan}
 use Rattle.emath.specs.Steps.{Edge}
 use Rattle.records.specs.Parts.{letter}
 use Rattle.records.specs.Records.{rest, nextAt}
+use Rattle.records.specs.Headings.{headingIn}
+use Rattle.records.specs.Sheets.{stepsLeft}
 use Rattle.records.proofs.Places.{next-is-rest}
 use Rattle.text.specs.Lines.{line, haveTexts, lineAt}
 use Rattle.grid.specs.Memories.{widths, heights}
@@ -146,5 +148,5 @@ module _ (n : ℕ) where
   pub passed-within : (l : Laid) (text : List ℕ) (cells : List ℤ) (q : Passed) (p : Put) → Within p n → Within (putPassed l text cells q p) n
   unfolding putPassed putAccepted putMemory
   passed-within Accepted text cells q p w =
-      entries-within 68 0 (heights (q .memory)) _ (entries-within 67 0 (widths (q .memory)) _ (line-within 80 (edges (inTicks 5 (q .plate))) _ (widgets-within 512 1 0 text cells p w)))
+      entries-within 68 0 (heights (q .memory)) _ (entries-within 67 0 (widths (q .memory)) _ (line-within 80 (edges (inTicks 5 (q .plate))) _ (widgets-within (stepsLeft text) (headingIn text .records + 1) 0 (drop (headingIn text .next) text) cells p w)))
   passed-within (Refused number at) text cells q p w = line-within 88 (pos number ∷ pos at ∷ []) p w

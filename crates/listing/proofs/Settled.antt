@@ -12,6 +12,7 @@ use lib.Ieee.{Float}
 use borrow.Author.Tests.{eqb-true, ne-eqb}
 use Rattle.grid.specs.Memories.{emptyMemory}
 use Rattle.grid.specs.declared.Memory.{Memory}
+use Rattle.records.specs.Headings.{hasGrid, headingIn}
 use Rattle.records.specs.Sheets.{checked}
 use Rattle.records.specs.declared.Checked.{Checked}
 use Rattle.records.specs.declared.Checked.the-variants as checked-of
@@ -19,14 +20,14 @@ use Rattle.sheet.specs.Pass.{Outcome, refusedAt, pass}
 use Rattle.sheet.specs.Passes.{passes}
 use Rattle.sheet.specs.Texts.{sheetIn}
 use Rattle.sheet.specs.Slices.{LaidOut, laidOf, passedOf, judged, laid}
-use Rattle.sheet.specs.Implementation.Passing.{Room, Known}
+use Rattle.sheet.specs.Implementation.Walks.{Room, Known}
 use Rattle.sheet.specs.Slices.{Called}
 use Rattle.sheet.specs.declared.Passed.{Passed}
-use Rattle.sheet.proofs.WalkedPasses.{no-such, no-fault}
+use Rattle.sheet.proofs.WalkedPasses.{no-such}
 use Rattle.sheet.proofs.Slices.{laid-length}
 use Rattle.sheet.proofs.Shown.{some-number}
 use Rattle.listing.specs.Lists.{printed, settledFrom, settled, listOf}
-use Rattle.listing.specs.Implementation.Putting.{Put, isAccepted, hasGrid, Printable, putPassed, numberOf}
+use Rattle.listing.specs.Implementation.Putting.{Put, isAccepted, Printable, putPassed, numberOf}
 use Rattle.listing.proofs.Written.{after}
 use Rattle.listing.proofs.Places.{grid-there}
 use Rattle.listing.proofs.Printed.{accepted-is, first-prints, first-list, second-prints, second-list}
@@ -36,19 +37,19 @@ module _ (text : List ℕ) (out : List ℤ) where
   first = laid text false emptyMemory true out
 
   -- an accepted pass is over a text without a fault
-  grid-known : first .outcome .number ≡ 0 → hasGrid text ≡ sheetIn text .«has_grid»
+  grid-known : first .outcome .number ≡ 0 → hasGrid text ≡ sheetIn text .heading .«has_grid»
   unfolding laid judged
   grid-known z = go (checked text (length out)) refl z
     where
-      go : (c : Checked) → checked text (length out) ≡ c → judged c text false emptyMemory true out .outcome .number ≡ 0 → hasGrid text ≡ sheetIn text .«has_grid»
+      go : (c : Checked) → checked text (length out) ≡ c → judged c text false emptyMemory true out .outcome .number ≡ 0 → hasGrid text ≡ sheetIn text .heading .«has_grid»
       go (checked-of.Refused n at) e h = absurd (omega (arith, h, some-number text (length out) n at e))
-      go (checked-of.Accepted r w) e h = grid-there text (no-fault text (length out) r w e)
+      go (checked-of.Accepted r w) e h = grid-there text
 
   -- whether the code goes on is whether the rule does
-  goes-on : isAccepted (laidOf (first .outcome .number) (first .outcome .at)) && hasGrid text ≡ eqb (first .outcome .number) 0 && sheetIn text .«has_grid»
+  goes-on : isAccepted (laidOf (first .outcome .number) (first .outcome .at)) && hasGrid text ≡ eqb (first .outcome .number) 0 && sheetIn text .heading .«has_grid»
   goes-on = rw (accepted-is (first .outcome .number) (first .outcome .at)) (go (eqb (first .outcome .number) 0) refl)
     where
-      go : (b : Bool) → eqb (first .outcome .number) 0 ≡ b → b && hasGrid text ≡ b && sheetIn text .«has_grid»
+      go : (b : Bool) → eqb (first .outcome .number) 0 ≡ b → b && hasGrid text ≡ b && sheetIn text .heading .«has_grid»
       go true e = grid-known (eqb-true (first .outcome .number) 0 e)
       go false e = refl
 
@@ -71,13 +72,13 @@ module _ (text : List ℕ) (out : List ℤ) where
 
     -- a second pass needs no second check
     pub known-again : (sizes : List Float) → length between ≡ length out → isAccepted (p .laid) && hasGrid text ≡ true
-        → ((r w : ℕ) → checked text (length out) ≡ checked-of.Accepted r w → Room text (length out) sizes) → Known text (length between) sizes
+        → ((r w : ℕ) → checked text (length out) ≡ checked-of.Accepted r w → Room (headingIn text) text (length out) sizes) → Known text (length between) sizes
     unfolding laid judged
     known-again sizes kept h f = go (checked text (length out)) refl (accepted-first h)
       where
         go : (k : Checked) → checked text (length out) ≡ k → judged k text false emptyMemory true out .outcome .number ≡ 0 → Known text (length between) sizes
         go (checked-of.Refused n at) e z = absurd (omega (arith, z, some-number text (length out) n at e))
-        go (checked-of.Accepted r w) e z = record { all = r; few = w; accepted = ap (λ (n : ℕ). checked text n) kept ∙ e; kept = subst (λ (n : ℕ). Room text n sizes) (sym kept) (f r w e) }
+        go (checked-of.Accepted r w) e z = record { all = r; widgets = w; accepted = ap (λ (n : ℕ). checked text n) kept ∙ e; ready = subst (λ (n : ℕ). Room (headingIn text) text n sizes) (sym kept) (f r w e) }
 
     pub once : isAccepted (p .laid) && hasGrid text ≡ false → (p ≡ passedOf (settled text out .outcome)) × (between ≡ settled text out .slice)
     once h =
@@ -138,7 +139,7 @@ outcome-is text known m sizing out r w e = rw e
 -- a sheet that 1 to 3 do not turn back gives what is printed of it
 pub settled-printed : (text : List ℕ) (out : List ℤ) (r w : ℕ) → checked text (length out) ≡ checked-of.Accepted r w → settled text out .outcome ≡ printed (sheetIn text)
 unfolding settled settledFrom printed passes
-settled-printed text out r w e = go (eqb (first text out .outcome .number) 0 && sheetIn text .«has_grid») ∙ ap (λ (o : Outcome). cond (eqb (o .number) 0 && sheetIn text .«has_grid») again-pass first-pass) one
+settled-printed text out r w e = go (eqb (first text out .outcome .number) 0 && sheetIn text .heading .«has_grid») ∙ ap (λ (o : Outcome). cond (eqb (o .number) 0 && sheetIn text .heading .«has_grid») again-pass first-pass) one
   where
     first-pass : Outcome
     first-pass = pass 5 (sheetIn text) false emptyMemory true

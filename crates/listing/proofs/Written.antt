@@ -19,8 +19,11 @@ use Rattle.text.specs.Lines.{texts, line, haveTexts}
 use Rattle.text.proofs.LineTexts.{texts-length, sets-append}
 use Rattle.records.specs.Parts.{letter}
 use Rattle.records.specs.Records.{recordOf, rest}
-use Rattle.records.specs.Sheets.{recordsFrom, placed, misplaced, widget, widgets}
+use Rattle.records.specs.Headings.{headingIn}
+use Rattle.records.specs.Sheets.{recordsFrom, stepsLeft, records, wrongFrom, widget, widgets}
+use Rattle.records.specs.Implementation.Keeping.{isStep}
 use Rattle.records.specs.declared.Record.{Record}
+use Rattle.records.specs.declared.Record.the-variants as record-of
 use Rattle.sheet.specs.Pass.{Cell}
 use Rattle.pass_laws.specs.WholeCells.{WholeCells, more}
 use Rattle.sheet.specs.Ticks.{ticks, inTicks}
@@ -106,7 +109,7 @@ next-places cells k c xs e =
 
 -- the records without a fault among them, and a cell for each W
 pub record Ready (left n k : ℕ) (u : List ℕ) (cells : List ℤ) (p : Put) (cs : List Cell) : Type 0 where
-  pub well : misplaced n (recordsFrom left u) ≡ 0
+  pub well : wrongFrom n (recordsFrom left u) ≡ 0
   pub from : 0 < n
   pub few : n + left ≤ 600
   pub others : List ℤ
@@ -120,13 +123,10 @@ unfolding widgetLines
 no-lines n [] = refl
 no-lines n (r ∷ rs) = refl
 
-here-placed : (n : ℕ) (r : Record) (rs : List Record) → 0 < n → misplaced n (r ∷ rs) ≡ 0 → (placed n r ≡ true) × (misplaced (n + 1) rs ≡ 0)
-unfolding misplaced
-here-placed n r rs f h = go (placed n r) refl
-  where
-    go : (b : Bool) → placed n r ≡ b → (placed n r ≡ true) × (misplaced (n + 1) rs ≡ 0)
-    go true e = (e, rw e at h)
-    go false e = let g : n ≡ 0 = (rw e at h) in absurd (omega (arith, g))
+here-step : (n : ℕ) (r : Record) (rs : List Record) → 0 < n → wrongFrom n (r ∷ rs) ≡ 0 → (isStep r ≡ true) × (wrongFrom (n + 1) rs ≡ 0)
+unfolding wrongFrom isStep
+here-step n (record-of.Step st) rs f h = (refl, h)
+here-step n record-of.Wrong rs f h = absurd (omega (arith, h))
 
 data Few : ℕ → Type 0 where
   none-here : Few 0
@@ -181,7 +181,7 @@ module _ (left n k : ℕ) (r : Record) (u : List ℕ) (cells : List ℤ) (p : Pu
   rs = recordsFrom left u
 
   record Turn (cs : List Cell) : Type 0 where
-    pub well : misplaced (n + 1) rs ≡ 0
+    pub well : wrongFrom (n + 1) rs ≡ 0
     pub few : n + suc left ≤ 600
     pub others : List ℤ
     pub there : drop (8 * k) cells ≡ written cs ++ others
@@ -212,22 +212,22 @@ put-widgets zero n k u cells p cs h = after-none p
 put-widgets (suc left) n k [] cells p cs h = after-none p
 put-widgets (suc left) n k (b ∷ s) cells p cs h =
     let r = recordOf (b ∷ s) in
-    let w = here-placed n r (recordsFrom left (rest (b ∷ s))) (h .from) (h .well) in
-    turn left n k r (rest (b ∷ s)) cells p (put-widgets left) (mark (b ∷ s)) (few-marks (b ∷ s)) (sym (mark-is n (b ∷ s) (w .0))) cs
+    let w = here-step n r (recordsFrom left (rest (b ∷ s))) (h .from) (h .well) in
+    turn left n k r (rest (b ∷ s)) cells p (put-widgets left) (mark (b ∷ s)) (few-marks (b ∷ s)) (sym (mark-is (b ∷ s) (w .0))) cs
     (record { well = w .1; few = h .few; others = h .others; there = h .there; whole = h .whole; all = sym (count r (recordsFrom left (rest (b ∷ s)))) ∙ h .all; room = h .room })
 
 -- ---- an accepted pass
-pub put-accepted : (text : List ℕ) (cells : List ℤ) (plate : Rect) (m : Memory) (p : Put) (cs : List Cell) → Ready 512 1 0 text cells p cs → WholeRect 5 plate → WholeMemory m
+pub put-accepted : (text : List ℕ) (cells : List ℤ) (plate : Rect) (m : Memory) (p : Put) (cs : List Cell) → Ready (stepsLeft text) (headingIn text .records + 1) 0 (drop (headingIn text .next) text) cells p cs → WholeRect 5 plate → WholeMemory m
     → p .at + 40802 ≤ length (p .out) → length cs ≤ 512
-    → putAccepted text cells plate m p ≡ after p (widgetLines 1 (recordsFrom 512 text) cs ++ (line 80 (edges (inTicks 5 plate)) ++ memoryLines m))
+    → putAccepted text cells plate m p ≡ after p (widgetLines (headingIn text .records + 1) (records text) cs ++ (line 80 (edges (inTicks 5 plate)) ++ memoryLines m))
 unfolding putAccepted
 put-accepted text cells plate m p cs h w v room few =
-    let a = widgetLines 1 (recordsFrom 512 text) cs in
+    let a = widgetLines (headingIn text .records + 1) (records text) cs in
     let zs = edges (inTicks 5 plate) in
-    let n : length a ≤ 74 * length cs = lines-length 1 (recordsFrom 512 text) cs in
+    let n : length a ≤ 74 * length cs = lines-length (headingIn text .records + 1) (records text) cs in
     let one = put-one 80 zs (after p a) (omega (arith, room, few, n, room-after p a)) (edges-texts plate [] w none-left) in
     let r = line-length 80 zs in
-    ap (λ (q : Put). putMemory m (putLine 80 zs q)) (put-widgets 512 1 0 text cells p cs h) ∙ ap (λ (q : Put). putMemory m q) one
+    ap (λ (q : Put). putMemory m (putLine 80 zs q)) (put-widgets (stepsLeft text) (headingIn text .records + 1) 0 (drop (headingIn text .next) text) cells p cs h) ∙ ap (λ (q : Put). putMemory m q) one
     ∙ put-memory m (after (after p a) (line 80 zs)) v (omega (arith, room, few, n, r, room-after p a, room-after (after p a) (line 80 zs)))
     ∙ ap (λ (q : Put). after q (memoryLines m)) (after-both p a (line 80 zs)) ∙ after-both p (a ++ line 80 zs) (memoryLines m)
     ∙ ap (λ (l : List ℕ). after p l) (append-assoc a (line 80 zs) (memoryLines m))

@@ -1,6 +1,6 @@
 -- Document 01, "The sheet": the list that `platelist` prints of a text.
 use Prim.Native.Nat.{ℕ, _+_}
-use mathlib.Core.Bool.{Bool, true, false, cond, _&&_}
+use mathlib.Core.Bool.{true, false, cond, _&&_}
 use mathlib.Core.List.{List, [], _∷_, _++_}
 use lib.Dec.{eqb}
 use lib.IntN.{ℤ, pos}
@@ -10,7 +10,9 @@ use lib.Ieee.{Float}
 use Rattle.emath.specs.Steps.{tick}
 use Rattle.grid.specs.Memories.{emptyMemory, widths, heights}
 use Rattle.grid.specs.declared.Memory.{Memory}
+use Rattle.records.specs.Headings.{headingIn}
 use Rattle.records.specs.Sheets.{records, widget, checked}
+use Rattle.records.specs.declared.Heading.{Heading}
 use Rattle.records.specs.declared.Record.{Record}
 use Rattle.records.specs.declared.Checked.{Checked}
 use Rattle.records.specs.declared.Checked.the-variants.{Accepted, Refused}
@@ -25,12 +27,12 @@ use Rattle.sheet.specs.Texts.{sheetIn}
 -- "The program runs a sheet with G twice …, the first pass without memory, the second using the first's memory and not sizing; the second is
 -- printed. Such a sheet is accepted if both passes are."
 unfoldable pub printed : Sheet → Outcome
-printed s = cond (eqb (passes tick s emptyMemory 0 .number) 0 && s .«has_grid») (passes tick s emptyMemory 1) (passes tick s emptyMemory 0)
+printed s = cond (eqb (passes tick s emptyMemory 0 .number) 0 && s .heading .«has_grid») (passes tick s emptyMemory 1) (passes tick s emptyMemory 0)
 
 -- the same over a text and one lent slice: what the last pass gives, and what the slice then holds
 unfoldable pub settledFrom : List ℕ → LaidOut → LaidOut
 settledFrom text first =
-    cond (eqb (first .outcome .number) 0 && sheetIn text .«has_grid») (laid text true (first .outcome .memory) false (first .slice)) first
+    cond (eqb (first .outcome .number) 0 && sheetIn text .heading .«has_grid») (laid text true (first .outcome .memory) false (first .slice)) first
 
 unfoldable pub settled : List ℕ → List ℤ → LaidOut
 settled text out = settledFrom text (laid text false emptyMemory true out)
@@ -52,19 +54,19 @@ unfoldable pub memoryLines : Memory → List ℕ
 memoryLines m = entryLines letters.C 0 (widths m) ++ entryLines letters.D 0 (heights m)
 
 -- "P the plate's edges; for grids C …, then D … Lines come in this order."
-unfoldable pub acceptedLines : Bool → List Record → Outcome → List ℕ
-acceptedLines grid rs o = widgetLines 1 rs (o .cells) ++ (line letters.P (edges (inTicks tick (o .plate))) ++ cond grid (memoryLines (o .memory)) [])
+unfoldable pub acceptedLines : Heading → List Record → Outcome → List ℕ
+acceptedLines h rs o = widgetLines (h .records + 1) rs (o .cells) ++ (line letters.P (edges (inTicks tick (o .plate))) ++ cond (h .«has_grid») (memoryLines (o .memory)) [])
 
 -- "If refused, only X with refusal number and record number (from 1)."
 unfoldable pub refusalLine : ℕ → ℕ → List ℕ
 refusalLine number at = line letters.X (pos number ∷ pos at ∷ [])
 
-unfoldable pub outcomeLines : Bool → List Record → Outcome → List ℕ
-outcomeLines grid rs o = cond (eqb (o .number) 0) (acceptedLines grid rs o) (refusalLine (o .number) (o .at))
+unfoldable pub outcomeLines : Heading → List Record → Outcome → List ℕ
+outcomeLines h rs o = cond (eqb (o .number) 0) (acceptedLines h rs o) (refusalLine (o .number) (o .at))
 
 unfoldable pub answered : Checked → List ℕ → List ℕ
 answered (Refused number at) text = refusalLine number at
-answered (Accepted count w) text = outcomeLines (sheetIn text .«has_grid») (records text) (printed (sheetIn text))
+answered (Accepted count w) text = outcomeLines (headingIn text) (records text) (printed (sheetIn text))
 
 -- the slice has room for 512 W, so that none is short
 unfoldable pub listOf : List ℕ → List ℕ

@@ -2,6 +2,7 @@
 use emath::Rect;
 use grid::Memory;
 use records::MAX_RECORDS;
+use records::headings::read_heading;
 use records::records::next_record;
 use sheet::cells::tick;
 use text::lines::write_line;
@@ -13,6 +14,8 @@ ghost use lib.ListN.{length, getD, drop};
 ghost use Rattle.text.specs.Letters as letters;
 ghost use Rattle.emath.specs.Steps.{tick, Edge};
 ghost use Rattle.layout.specs.Steps.{WholeRect};
+ghost use Rattle.records.specs.Headings.{headingIn};
+ghost use Rattle.records.specs.Sheets.{stepsLeft};
 ghost use Rattle.sheet.specs.Ticks.{ticks, inTicks};
 ghost use Rattle.sheet.specs.Slices.{edges};
 ghost use Rattle.listing.specs.Implementation.Putting.{putLine, mark, putWidget, putWidgets, putEntries, putMemory, Whole, WholeMemory};
@@ -87,15 +90,23 @@ fn put_widget(
     put_line(out, at, b'W', &numbers)
 }
 
-// A line for each W, with its record's number.
-pub fn put_widgets(out: &mut [u8], text: &[u8], cells: &[i32]) -> usize
-    ensures { λ r. ⌜ record { at = r; out = now (out .exit) } ≡ putWidgets 512 1 0 (now (text .entry)) (now (cells .entry)) (record { at = 0; out = now (out .entry) }) ⌝ }
+// A line for each W, with its record's number: of at most `most` records from `from` on, the first of them record `first`.
+fn put_widgets_from(
+    out: &mut [u8],
+    text: &[u8],
+    cells: &[i32],
+    from: usize,
+    first: usize,
+    most: usize,
+) -> usize
+    requires { ⌜ first + most ≤ 513 ⌝ }
+    ensures { λ r. ⌜ record { at = r; out = now (out .exit) } ≡ putWidgets most first 0 (drop from (now (text .entry))) (now (cells .entry)) (record { at = 0; out = now (out .entry) }) ⌝ }
 {
-    let mut at: usize = 0;
-    let mut n: usize = 1;
+    let mut at = from;
+    let mut n = first;
     let mut k: usize = 0;
     let mut end: usize = 0;
-    let mut left: usize = MAX_RECORDS;
+    let mut left = most;
     while 0 < left {
         if text.len() <= at {
             return end;
@@ -108,6 +119,15 @@ pub fn put_widgets(out: &mut [u8], text: &[u8], cells: &[i32]) -> usize
         left -= 1;
     }
     end
+}
+
+// The same of all records after the heading.
+pub fn put_widgets(out: &mut [u8], text: &[u8], cells: &[i32]) -> usize
+    ensures { λ r. ⌜ record { at = r; out = now (out .exit) } ≡ putWidgets (stepsLeft (now (text .entry))) (headingIn (now (text .entry)) .records + 1) 0 (drop (headingIn (now (text .entry)) .next) (now (text .entry))) (now (cells .entry)) (record { at = 0; out = now (out .entry) }) ⌝ }
+{
+    let h = read_heading(text);
+    let records = h.records;
+    put_widgets_from(out, text, cells, h.next, records + 1, MAX_RECORDS - records)
 }
 
 // P: the plate's edges.

@@ -9,9 +9,7 @@ use emath::Rect;
 use grid::Memory;
 use grid::memories::empty_memory;
 use records::KEPT;
-use records::Record;
-use records::records::next_record;
-use records::records::read_record;
+use records::headings::has_grid;
 use sheet::Laid;
 use sheet::Passed;
 use sheet::passing::pass_again;
@@ -22,25 +20,7 @@ ghost use Rattle.emath.specs.Steps.{tick};
 ghost use Rattle.layout.specs.Steps.{WholeRect};
 ghost use Rattle.sheet.specs.Slices.{passedOf};
 ghost use Rattle.listing.specs.Lists.{settled, listIn};
-ghost use Rattle.listing.specs.Implementation.Putting.{isGrid, hasGrid, isAccepted, putAccepted, putPassed, WholeMemory, Printable, numberOf};
-
-fn is_grid(r: Record) -> bool
-    ensures { λ b. ⌜ b ≡ isGrid r ⌝ }
-{
-    match r {
-        Record::Heading(_) => false,
-        Record::Grid(_) => true,
-        Record::Step(_) => false,
-        Record::Wrong => false,
-    }
-}
-
-// Whether the second record is a G.
-fn has_grid(text: &[u8]) -> bool
-    ensures { λ b. ⌜ b ≡ hasGrid (now (text .entry)) ⌝ }
-{
-    is_grid(read_record(text, next_record(text, 0)))
-}
+ghost use Rattle.listing.specs.Implementation.Putting.{isAccepted, putAccepted, putPassed, WholeMemory, Printable, numberOf};
 
 fn is_accepted(laid: Laid) -> bool
     ensures { λ b. ⌜ b ≡ isAccepted laid ⌝ }

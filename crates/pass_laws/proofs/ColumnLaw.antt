@@ -1,6 +1,6 @@
 -- The column law: in every accepted pass of a grid sheet, with any records, any given memory, sizing or not, a column that holds cells is
 -- counted in the memory given back, and exactly as wide there as the larger of the minimum and its widest control. Assumes nothing.
-use Prim.Native.Nat.{ℕ, _≤_, _<_}
+use Prim.Native.Nat.{ℕ, _+_, _≤_, _<_}
 use mathlib.Core.Path.{_≡_, refl, ap, sym, _∙_, subst}
 use mathlib.Core.Bool.{Bool, true, false, _||_}
 use mathlib.Core.List.{[]}
@@ -71,14 +71,14 @@ edge-not-negative k l x e h =
 -- ---- the pass
 module _ (k : ℕ) (l : k ≤ 7) (s : Sheet) (known : Bool) (m : Memory) (sizing : Bool) where
   abbrev smallest : Float
-  smallest = s .options .«min_cell_size» .x
+  smallest = s .heading .options .«min_cell_size» .x
 
   abbrev begins : Placer
   begins = gridStart k s known m sizing
 
   starts : InGrid smallest begins
   unfolding newGrid
-  starts = record { grid = refl; sound = new-sound (start k s known m sizing .region) known m sizing (s .heading .spacing) (s .options .«min_cell_size») (s .options .«max_cell_size») (s .options .«num_columns») (s .options .«start_row»); least = refl }
+  starts = record { grid = refl; sound = new-sound (start k s known m sizing .region) known m sizing (s .heading .spacing) (s .heading .options .«min_cell_size») (s .heading .options .«max_cell_size») (s .heading .options .«num_columns») (s .heading .options .«start_row»); least = refl }
 
   start-width : (c : ℕ) → colWidth (begins .grid .«curr_state») c zeroF ≡ zeroF
   unfolding newGrid
@@ -88,19 +88,19 @@ module _ (k : ℕ) (l : k ≤ 7) (s : Sheet) (known : Bool) (m : Memory) (sizing
   unfolding newGrid
   start-column = refl
 
-  start-least : begins .grid .«min_cell_size» ≡ s .options .«min_cell_size»
+  start-least : begins .grid .«min_cell_size» ≡ s .heading .options .«min_cell_size»
   unfolding newGrid
   start-least = refl
 
-  pub column-law : WholeSheet k s → s .«has_grid» ≡ true → pass k s known m sizing .number ≡ 0 → (c : ℕ) → 0 < length (inColumn c 0 (s .steps))
+  pub column-law : WholeSheet k s → s .heading .«has_grid» ≡ true → pass k s known m sizing .number ≡ 0 → (c : ℕ) → 0 < length (inColumn c 0 (s .steps))
       → (c < pass k s known m sizing .memory .cols) × (colWidth (pass k s known m sizing .memory) c zeroF ≡ widest smallest (inColumn c 0 (s .steps)))
   column-law w g h c some =
       let p = grid-pass k s known m sizing g h in
-      let q = runFrom k (s .heading .spacing) 3 begins (s .steps) .placer in
+      let q = runFrom k (s .heading .spacing) (s .heading .records + 1) begins (s .steps) .placer in
       let r : Raised smallest c (inColumn c 0 (s .steps)) begins q
-      = subst (λ (j : ℕ). Raised smallest c (inColumn c j (s .steps)) begins q) start-column (column-run smallest c k l (s .heading .spacing) (w .steps) 3 begins starts (p .run)) in
+      = subst (λ (j : ℕ). Raised smallest c (inColumn c j (s .steps)) begins q) start-column (column-run smallest c k l (s .heading .spacing) (w .steps) (s .heading .records + 1) begins starts (p .run)) in
       let memory : pass k s known m sizing .memory ≡ q .grid .«curr_state» = p .memory ∙ saved-is q (r .inside .grid) in
-      let positive = edge-not-negative k l smallest (w .smallest .x) (not-negative (s .options .«min_cell_size») (ap (λ (v : Vec2). sizeFault v) (sym start-least) ∙ least-cell (begins .grid) (placer-grid begins refl (p .fault))) .0) in (
+      let positive = edge-not-negative k l smallest (w .smallest .x) (not-negative (s .heading .options .«min_cell_size») (ap (λ (v : Vec2). sizeFault v) (sym start-least) ∙ least-cell (begins .grid) (placer-grid begins refl (p .fault))) .0) in (
         rw memory (r .counted some),
         ap (λ (x : Memory). colWidth x c zeroF) memory ∙ r .width ∙ ap (λ (x : Float). raisedBy smallest x (inColumn c 0 (s .steps))) (start-width c)
             ∙ raised-to-widest k l smallest (w .smallest .x) (inColumn c 0 (s .steps)) (column-widths k l c (w .steps) 0) positive some,

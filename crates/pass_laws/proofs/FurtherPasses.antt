@@ -1,6 +1,6 @@
 -- All further passes: the second pass of an accepted grid sheet, of any records, gives back the memory that it was given, so every pass after
 -- it is the same. For steps of 1 to 1/64 point. Assumes nothing.
-use Prim.Native.Nat.{ℕ, zero, suc, _≤_}
+use Prim.Native.Nat.{ℕ, zero, suc, _+_, _≤_}
 use mathlib.Core.Path.{_≡_, refl, ap, sym, _∙_, subst}
 use mathlib.Core.Bool.{Bool, true, false}
 use mathlib.Core.List.{List, [], map}
@@ -52,10 +52,10 @@ cursor-top k BottomUp c f w = absurd (let z : _≡_ {A = ℕ} 0 1 = cc in omega 
 
 module _ (k : ℕ) (l : k ≤ 6) (s : Sheet) (w : WholeSheet k s) where
   abbrev mw : ℕ
-  mw = count k (s .options .«min_cell_size» .x)
+  mw = count k (s .heading .options .«min_cell_size» .x)
 
   abbrev mh : ℕ
-  mh = count k (s .options .«min_cell_size» .y)
+  mh = count k (s .heading .options .«min_cell_size» .y)
 
   module _ (known : Bool) (m : Memory) (sizing : Bool) (p : GridPass k s known m sizing) where
     abbrev begins : Placer
@@ -69,28 +69,28 @@ module _ (k : ℕ) (l : k ≤ 6) (s : Sheet) (w : WholeSheet k s) where
         record {
           grid = refl;
           fits = f;
-          sound = new-sound (start k s known m sizing .region) known m sizing (s .heading .spacing) (s .options .«min_cell_size») (s .options .«max_cell_size») (s .options .«num_columns») (s .options .«start_row»);
-          down = new-down (start k s known m sizing .region) known m sizing (s .heading .spacing) (s .options .«min_cell_size») (s .options .«max_cell_size») (s .options .«num_columns») (s .options .«start_row») k (w .smallest .y) (w .spacing .y);
+          sound = new-sound (start k s known m sizing .region) known m sizing (s .heading .spacing) (s .heading .options .«min_cell_size») (s .heading .options .«max_cell_size») (s .heading .options .«num_columns») (s .heading .options .«start_row»);
+          down = new-down (start k s known m sizing .region) known m sizing (s .heading .spacing) (s .heading .options .«min_cell_size») (s .heading .options .«max_cell_size») (s .heading .options .«num_columns») (s .heading .options .«start_row») k (w .smallest .y) (w .spacing .y);
           tops = record { inner = n .inner; outer = n .outer; top = cursor-top k (begins .layout .«main_dir») (begins .region .cursor) f (n .cursor) };
         }
 
-    least-is : begins .grid .«min_cell_size» ≡ s .options .«min_cell_size»
+    least-is : begins .grid .«min_cell_size» ≡ s .heading .options .«min_cell_size»
     unfolding newGrid
     least-is = refl
 
     -- the least cell, counted
-    least-counted : (s .options .«min_cell_size» .x ≡ len k mw) × (mw ≤ most k) × (s .options .«min_cell_size» .y ≡ len k mh) × (mh ≤ most k)
+    least-counted : (s .heading .options .«min_cell_size» .x ≡ len k mw) × (mw ≤ most k) × (s .heading .options .«min_cell_size» .y ≡ len k mh) × (mh ≤ most k)
     least-counted =
-        let z = not-negative (s .options .«min_cell_size») (ap (λ (v : Vec2). sizeFault v) (sym least-is) ∙ least-cell (begins .grid) (placer-grid begins refl (p .fault))) in
-        let a = counted k l (s .options .«min_cell_size» .x) (w .smallest .x) (edge-not-negative k (omega arith) (s .options .«min_cell_size» .x) (w .smallest .x) (z .0)) in
-        let b = counted k l (s .options .«min_cell_size» .y) (w .smallest .y) (edge-not-negative k (omega arith) (s .options .«min_cell_size» .y) (w .smallest .y) (z .1)) in
+        let z = not-negative (s .heading .options .«min_cell_size») (ap (λ (v : Vec2). sizeFault v) (sym least-is) ∙ least-cell (begins .grid) (placer-grid begins refl (p .fault))) in
+        let a = counted k l (s .heading .options .«min_cell_size» .x) (w .smallest .x) (edge-not-negative k (omega arith) (s .heading .options .«min_cell_size» .x) (w .smallest .x) (z .0)) in
+        let b = counted k l (s .heading .options .«min_cell_size» .y) (w .smallest .y) (edge-not-negative k (omega arith) (s .heading .options .«min_cell_size» .y) (w .smallest .y) (z .1)) in
         (a .0, a .1, b .0, b .1)
 
     module _ (given : List ℕ) (few : Upto (most k) given) (are : heights (knownMemory known m) ≡ map (len k) given) where
       abbrev last : Placer
-      last = runFrom k (s .heading .spacing) 3 begins (s .steps) .placer
+      last = runFrom k (s .heading .spacing) (s .heading .records + 1) begins (s .steps) .placer
 
-      begins-at : At k l mw mh (least-counted .1) (least-counted .3) given few (s .options .«start_row») 0 [] [] begins
+      begins-at : At k l mw mh (least-counted .1) (least-counted .3) given few (s .heading .options .«start_row») 0 [] [] begins
       unfolding newGrid
       begins-at = record {
         steps = begins-on-steps;
@@ -103,16 +103,16 @@ module _ (k : ℕ) (l : k ≤ 6) (s : Sheet) (w : WholeSheet k s) where
       }
 
       -- what the pass gives back
-      pub gives-back : (rows : List ℕ) × Run mh given (s .options .«start_row») [] (modelSteps k (s .steps)) rows × Listed k (colsFrom mw 0 [] (modelSteps k (s .steps))) rows (pass k s known m sizing .memory)
+      pub gives-back : (rows : List ℕ) × Run mh given (s .heading .options .«start_row») [] (modelSteps k (s .steps)) rows × Listed k (colsFrom mw 0 [] (modelSteps k (s .steps))) rows (pass k s known m sizing .memory)
       gives-back =
-          let t = settles k l mw mh (least-counted .1) (least-counted .3) given few (s .heading .spacing) (w .steps) 3 (s .options .«start_row») 0 [] [] begins begins-at (p .run) in
+          let t = settles k l mw mh (least-counted .1) (least-counted .3) given few (s .heading .spacing) (w .steps) (s .heading .records + 1) (s .heading .options .«start_row») 0 [] [] begins begins-at (p .run) in
           let e = p .memory ∙ saved-is last (t .at .steps .grid) in
           (t .rows, t .run, subst (Listed k _ (t .rows)) (sym e) (t .at .listed))
 
   -- ---- the second pass gives back what it was given
-  module _ (g : s .«has_grid» ≡ true) (none : Memory) (one : passes k s none 0 .number ≡ 0) where
+  module _ (g : s .heading .«has_grid» ≡ true) (none : Memory) (one : passes k s none 0 .number ≡ 0) where
     -- the first one begins with no heights, whatever stands beside its flag
-    pub first-gives-back : (rows : List ℕ) × Run mh [] (s .options .«start_row») [] (modelSteps k (s .steps)) rows × Listed k (colsFrom mw 0 [] (modelSteps k (s .steps))) rows (passes k s none 0 .memory)
+    pub first-gives-back : (rows : List ℕ) × Run mh [] (s .heading .options .«start_row») [] (modelSteps k (s .steps)) rows × Listed k (colsFrom mw 0 [] (modelSteps k (s .steps))) rows (passes k s none 0 .memory)
     unfolding passes knownMemory
     first-gives-back = gives-back _ none true (grid-pass k s _ none true g one) [] empty refl
 

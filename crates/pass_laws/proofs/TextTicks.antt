@@ -1,10 +1,11 @@
 -- Every sheet that is read from a text is in whole ticks, whatever the text. Assumes nothing.
 use Prim.Native.Nat.{ℕ, zero, suc, _+_, _*_, _≤_}
 use mathlib.Core.Path.{_≡_, refl}
-use mathlib.Core.Bool.{Bool, true, false, _&&_}
+use mathlib.Core.Bool.{Bool, true, false, cond, _&&_}
 use lib.Dec.{eqb}
+use lib.ListN.{drop}
 use mathlib.Core.List.{List, [], _∷_}
-use lib.IntN.{ℤ, pos, natAbs}
+use lib.IntN.{ℤ, natAbs}
 use Rattle.emath.specs.Steps.{Edge}
 use Rattle.layout.specs.Steps.{WholeRect, WholeSize}
 use Rattle.layout.specs.Rules.{zeroVec}
@@ -12,18 +13,17 @@ use Rattle.text.specs.Fields.{fieldAt}
 use Rattle.text.specs.declared.Field.{Field}
 use Rattle.text.specs.declared.Field.the-variants as field
 use Rattle.text.proofs.RoundTrip.{at-is-text}
-use Rattle.records.specs.Parts.{letter, ends, points, inPoints, lengthIn, isLength, lengthValue, countIn, isCount}
-use Rattle.records.specs.Records.{pick, pairFits, layoutFits, maximaFit, isColumns, pairIn, rectIn, headingRecord, optionsIn, gridRecord, stepRecord, widgetRecord, singleRecord, recordOf}
-use Rattle.records.specs.Sheets.{recordsFrom}
-use Rattle.records.specs.declared.Heading.{Heading}
-use Rattle.records.specs.declared.GridOptions.{GridOptions}
+use Rattle.records.specs.Parts.{letter, ends, points, inPoints, lengthIn, isLength, lengthValue}
+use Rattle.records.specs.Records.{pick, pairIn, rectIn, optionsIn, stepRecord, widgetRecord, singleRecord, recordOf, rest}
+use Rattle.records.specs.Headings.{hasGrid, noOptions, headingIn}
+use Rattle.records.specs.Sheets.{recordsFrom, stepsLeft}
 use Rattle.records.specs.declared.Step.{Step}
 use Rattle.records.specs.declared.Step.the-variants.{Widget, Space, RowHeight, MaxWidth, MaxHeight, MinWidth, MinHeight, RowEnd}
 use Rattle.records.specs.declared.Record.{Record}
 use Rattle.records.specs.declared.Record.the-variants as record-of
 use Rattle.pass_laws.specs.WholeSheets.{WholeSteps, WholeSheet}
-use Rattle.sheet.specs.Texts.{stepsOf, noHeading, afterHeading, sheetOf, sheetIn}
-use Rattle.pass_laws.proofs.WholeEdges.{zero-edge, zero-rect}
+use Rattle.sheet.specs.Texts.{stepsOf, sheetIn}
+use Rattle.pass_laws.proofs.WholeEdges.{zero-edge}
 
 points-edge : (z : ℤ) → natAbs z ≤ 2097152 → Edge 5 (points z)
 unfolding points
@@ -50,8 +50,6 @@ rect-whole s = record { left = pair-whole s 6 .x; top = pair-whole s 6 .y; right
 
 -- ---- a record
 pub data WholeRecord : Record → Type 0 where
-  heading : {h : Heading} → WholeRect 5 (h .«max_rect») → WholeSize 5 (h .spacing) → WholeRecord (record-of.Heading h)
-  grid : {g : GridOptions} → WholeSize 5 (g .«min_cell_size») → WholeRecord (record-of.Grid g)
   step : {st : Step} → WholeSteps 5 (st ∷ []) → WholeRecord (record-of.Step st)
   wrong : WholeRecord record-of.Wrong
 
@@ -59,17 +57,9 @@ either : (b : Bool) {x y : Record} → WholeRecord x → WholeRecord y → Whole
 either true p q = p
 either false p q = q
 
-heading-whole : (s : List ℕ) → WholeRecord (headingRecord s)
-unfolding headingRecord
-heading-whole s = either (layoutFits s && (pairFits s 6 && pairFits s 8) && pairFits s 10 && ends s 12) (heading (rect-whole s) (pair-whole s 10)) wrong
-
 options-whole : (s : List ℕ) → WholeSize 5 (optionsIn s .«min_cell_size»)
 unfolding optionsIn
 options-whole s = pair-whole s 0
-
-grid-whole : (s : List ℕ) → WholeRecord (gridRecord s)
-unfolding gridRecord
-grid-whole s = either (pairFits s 0 && maximaFit s && isColumns (countIn s 4 32) && isCount (countIn s 5 127) (pos 0) && ends s 6) (grid (options-whole s)) wrong
 
 step-whole : (s : List ℕ) (n : ℕ) (b : Bool) (st : Step) → WholeSteps 5 (st ∷ []) → WholeRecord (stepRecord s n b st)
 unfolding stepRecord
@@ -95,10 +85,7 @@ single-whole s b =
 pub record-whole : (s : List ℕ) → WholeRecord (recordOf s)
 unfolding recordOf
 record-whole s =
-    either (eqb (letter s) 72) (heading-whole s)
-    (either (eqb (letter s) 71) (grid-whole s)
-    (either (eqb (letter s) 87) (widget-whole s)
-    (either (eqb (letter s) 69) (step-whole s 0 true RowEnd (WholeSteps.rowEnd WholeSteps.none)) (single-whole s (letter s)))))
+    either (eqb (letter s) 87) (widget-whole s) (either (eqb (letter s) 69) (step-whole s 0 true RowEnd (WholeSteps.rowEnd WholeSteps.none)) (single-whole s (letter s)))
 
 -- ---- a sheet
 data AllWhole : List Record → Type 0 where
@@ -125,28 +112,19 @@ steps-whole : {rs : List Record} → AllWhole rs → WholeSteps 5 (stepsOf rs)
 unfolding stepsOf
 steps-whole none = WholeSteps.none
 steps-whole (more (step w) t) = after-step w (steps-whole t)
-steps-whole (more (heading a b) t) = steps-whole t
-steps-whole (more (grid a) t) = steps-whole t
 steps-whole (more wrong t) = steps-whole t
 
 zero-size : WholeSize 5 zeroVec
 zero-size = record { x = zero-edge 5; y = zero-edge 5 }
 
-after-whole : (h : Heading) → WholeRect 5 (h .«max_rect») → WholeSize 5 (h .spacing) → {rs : List Record} → AllWhole rs → WholeSheet 5 (afterHeading h rs)
-unfolding afterHeading
-after-whole h a b none = record { rect = a; spacing = b; smallest = zero-size; steps = WholeSteps.none }
-after-whole h a b (more (grid g) t) = record { rect = a; spacing = b; smallest = g; steps = steps-whole t }
-after-whole h a b (more (heading x y) t) = record { rect = a; spacing = b; smallest = zero-size; steps = steps-whole t }
-after-whole h a b (more (step w) t) = record { rect = a; spacing = b; smallest = zero-size; steps = after-step w (steps-whole t) }
-after-whole h a b (more wrong t) = record { rect = a; spacing = b; smallest = zero-size; steps = steps-whole t }
-
-sheet-whole : {rs : List Record} → AllWhole rs → WholeSheet 5 (sheetOf rs)
-unfolding sheetOf
-sheet-whole none = after-whole noHeading (zero-rect 5) zero-size none
-sheet-whole (more (heading {h = h} a b) t) = after-whole h a b t
-sheet-whole (more (grid g) t) = after-whole noHeading (zero-rect 5) zero-size none
-sheet-whole (more (step w) t) = after-whole noHeading (zero-rect 5) zero-size none
-sheet-whole (more wrong t) = after-whole noHeading (zero-rect 5) zero-size none
+smallest-whole : (s : List ℕ) → WholeSize 5 (headingIn s .options .«min_cell_size»)
+unfolding headingIn
+smallest-whole s = go (hasGrid s)
+  where
+    go : (b : Bool) → WholeSize 5 (cond b (optionsIn (rest s)) noOptions .«min_cell_size»)
+    go true = options-whole (rest s)
+    go false = zero-size
 
 pub text-whole : (text : List ℕ) → WholeSheet 5 (sheetIn text)
-text-whole text = sheet-whole (records-whole 512 text)
+unfolding headingIn
+text-whole text = record { rect = rect-whole text; spacing = pair-whole text 10; smallest = smallest-whole text; steps = steps-whole (records-whole (stepsLeft text) (drop (headingIn text .next) text)) }

@@ -74,14 +74,14 @@ module _ (k : ℕ) (l : k ≤ 7) where
 
   ran-cells : (s : Sheet) (known : Bool) (m : Memory) (sizing : Bool) (p : Placer) → WholeCells k (ranWith k s known m sizing p .cells)
   unfolding ranWith begun
-  ran-cells s known m sizing p = go (s .«has_grid»)
+  ran-cells s known m sizing p = go (s .heading .«has_grid»)
     where
       g : PlacerAnswer
-      g = gridded (s .heading) (s .options) known m sizing p
+      g = gridded (s .heading) known m sizing p
 
-      go : (b : Bool) → WholeCells k (cond b (followed 2 (called g) (runFrom k (s .heading .spacing) 3 (g .placer) (s .steps))) (runFrom k (s .heading .spacing) 2 p (s .steps)) .cells)
-      go true = followed-cells 2 (called g) _ (λ (e : g .number ≡ 0). none) (run-cells (s .heading .spacing) 3 (g .placer) (s .steps))
-      go false = run-cells (s .heading .spacing) 2 p (s .steps)
+      go : (b : Bool) → WholeCells k (cond b (followed (s .heading .records) (called g) (runFrom k (s .heading .spacing) (s .heading .records + 1) (g .placer) (s .steps))) (runFrom k (s .heading .spacing) (s .heading .records + 1) p (s .steps)) .cells)
+      go true = followed-cells (s .heading .records) (called g) _ (λ (e : g .number ≡ 0). none) (run-cells (s .heading .spacing) (s .heading .records + 1) (g .placer) (s .steps))
+      go false = run-cells (s .heading .spacing) (s .heading .records + 1) p (s .steps)
 
   -- the W before a fault, or all of them
   pub pass-cells : (s : Sheet) (known : Bool) (m : Memory) (sizing : Bool) → WholeCells k (pass k s known m sizing .cells)
@@ -89,7 +89,7 @@ module _ (k : ℕ) (l : k ≤ 7) where
   pass-cells s known m sizing =
       let h = headed k (s .heading) in
       let r = ranWith k s known m sizing (h .placer) in
-      subst (WholeCells k) (sym (outcome-cells (s .«has_grid») m (followed 1 (called h) r))) (followed-cells 1 (called h) r (λ (e : h .number ≡ 0). none) (ran-cells s known m sizing (h .placer)))
+      subst (WholeCells k) (sym (outcome-cells (s .heading .«has_grid») m (followed 1 (called h) r))) (followed-cells 1 (called h) r (λ (e : h .number ≡ 0). none) (ran-cells s known m sizing (h .placer)))
 
 -- ---- the plate without a grid: the placer stays whole
 module _ (k : ℕ) (l : k ≤ 6) (sp : Vec2) (S : WholeSize k sp) where
@@ -185,21 +185,21 @@ pub record WholePass (k : ℕ) (s : Sheet) (known : Bool) (m : Memory) (sizing :
   pub plate : WholeRect k (pass k s known m sizing .plate)
 
 module _ (k : ℕ) (l : k ≤ 6) (s : Sheet) (w : WholeSheet k s) (known : Bool) (m : Memory) (sizing : Bool) where
-  min-whole : (p : Placer) → WholeRect k (p .region .«min_rect») → WholeRect k (plateOf p)
+  min-whole : (r : Ran) → WholeRect k (r .placer .region .«min_rect») → WholeRect k (plateOf r)
   unfolding plateOf
-  min-whole p r = r
+  min-whole r w = w
 
   starts-plain : PlainPass k s known m sizing → Plain k l (s .heading .spacing) (w .spacing) (start k s known m sizing)
   starts-plain p = record { plain = (unfold newPlacer in refl); whole = new-whole k l (s .heading .«max_rect») (s .heading .layout) (w .rect) (p .begin) }
 
-  plate-by : (b : Bool) → s .«has_grid» ≡ b → pass k s known m sizing .number ≡ 0 → WholeRect k (pass k s known m sizing .plate)
+  plate-by : (b : Bool) → s .heading .«has_grid» ≡ b → pass k s known m sizing .number ≡ 0 → WholeRect k (pass k s known m sizing .plate)
   plate-by true g h =
       let p = grid-pass k s known m sizing g h in
       let t = passed-through k l s w known m sizing g h in
       subst (WholeRect k) (sym (p .plate)) (min-whole _ (t .last .tops .inner))
   plate-by false g h =
       let p = plain-pass k s known m sizing g h in
-      let t = plain-run k l (s .heading .spacing) (w .spacing) (w .steps) 2 (start k s known m sizing) (starts-plain p) (p .run) in
+      let t = plain-run k l (s .heading .spacing) (w .spacing) (w .steps) (s .heading .records + 1) (start k s known m sizing) (starts-plain p) (p .run) in
       subst (WholeRect k) (sym (p .plate)) (min-whole _ (t .whole .inner))
 
   plate-whole : WholeRect k (pass k s known m sizing .plate)
@@ -207,7 +207,7 @@ module _ (k : ℕ) (l : k ≤ 6) (s : Sheet) (w : WholeSheet k s) (known : Bool)
   plate-whole = go (outcome-ends _ m _)
     where
       go : Ended (pass k s known m sizing) → WholeRect k (pass k s known m sizing .plate)
-      go (well z a) = plate-by (s .«has_grid») refl z
+      go (well z a) = plate-by (s .heading .«has_grid») refl z
       go (badly n e) = subst (WholeRect k) (sym e) (zero-rect k)
 
   pub whole-pass : WholePass k s known m sizing

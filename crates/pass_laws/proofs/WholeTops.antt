@@ -62,12 +62,12 @@ module _ (k : ℕ) (l : k ≤ 6) (sp : Vec2) where
   through (MinHeight v ∷ rest) n p i g = let t = other-through rest Other.minHeight (through rest) n p i g in record { tops = t .0; last = t .1 }
 
 -- ---- the pass
-module _ (k : ℕ) (l : k ≤ 6) (s : Sheet) (w : WholeSheet k s) (known : Bool) (m : Memory) (sizing : Bool) (g : s .«has_grid» ≡ true) (h : pass k s known m sizing .number ≡ 0) where
+module _ (k : ℕ) (l : k ≤ 6) (s : Sheet) (w : WholeSheet k s) (known : Bool) (m : Memory) (sizing : Bool) (g : s .heading .«has_grid» ≡ true) (h : pass k s known m sizing .number ≡ 0) where
   abbrev taken : GridPass k s known m sizing
   taken = grid-pass k s known m sizing g h
 
-  pub passed-through : Through k l (s .heading .spacing) (gridStart k s known m sizing) (runFrom k (s .heading .spacing) 3 (gridStart k s known m sizing) (s .steps) .placer) (s .steps)
-  passed-through = through k l (s .heading .spacing) (s .steps) 3 (gridStart k s known m sizing) (begins-on-steps k l s w known m sizing taken) (taken .run)
+  pub passed-through : Through k l (s .heading .spacing) (gridStart k s known m sizing) (runFrom k (s .heading .spacing) (s .heading .records + 1) (gridStart k s known m sizing) (s .steps) .placer) (s .steps)
+  passed-through = through k l (s .heading .spacing) (s .steps) (s .heading .records + 1) (gridStart k s known m sizing) (begins-on-steps k l s w known m sizing taken) (taken .run)
 
   pub always-on-steps : TopsOnSteps k s known m sizing
   always-on-steps = subst (λ (p : Placer). FindsTops k (s .heading .spacing) p (s .steps)) (sym (taken .is)) (passed-through .tops)

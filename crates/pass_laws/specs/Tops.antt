@@ -25,7 +25,7 @@ FindsTops k sp p (MinHeight h ∷ rest) = FindsTops k sp (stepped k sp p (MinHei
 
 -- each W of a pass over a grid sheet, with a memory or none, sizing or not
 abbrev pub TopsOnSteps : ℕ → Sheet → Bool → Memory → Bool → Type 0
-TopsOnSteps k s known m sizing = FindsTops k (s .heading .spacing) (gridded (s .heading) (s .options) known m sizing (headed k (s .heading) .placer) .placer) (s .steps)
+TopsOnSteps k s known m sizing = FindsTops k (s .heading .spacing) (gridded (s .heading) known m sizing (headed k (s .heading) .placer) .placer) (s .steps)
 
 -- "as always without K"
 pub data NoK : List Step → Type 0 where

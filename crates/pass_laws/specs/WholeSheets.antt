@@ -24,5 +24,5 @@ pub data WholeSteps (k : ℕ) : List Step → Type 0 where
 pub record WholeSheet (k : ℕ) (s : Sheet) : Type 0 where
   pub rect : WholeRect k (s .heading .«max_rect»)
   pub spacing : WholeSize k (s .heading .spacing)
-  pub smallest : WholeSize k (s .options .«min_cell_size»)
+  pub smallest : WholeSize k (s .heading .options .«min_cell_size»)
   pub steps : WholeSteps k (s .steps)

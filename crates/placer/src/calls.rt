@@ -61,7 +61,10 @@ pub fn advance_cursor(placer: BarePlacer, spot: Spot, amount: f32) -> SpotAnswer
 {
     let l = placer.layout;
     let d = l.main_dir;
-    let before = lesser_number(length_fault(amount), number_when(placer.has_grid, NOT_IN_GRID));
+    let before = lesser_number(
+        length_fault(amount),
+        number_when(placer.has_grid, NOT_IN_GRID),
+    );
     settled(
         placer,
         spot,

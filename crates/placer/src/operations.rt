@@ -140,7 +140,10 @@ impl Placer {
         ensures { λ a. ⌜ a ≡ checkedAdvanceCursor self amount ⌝ }
     {
         let new = rules::advance_cursor(self, amount);
-        let rest = lesser_number(length_fault(amount), number_when(self.has_grid, NOT_IN_GRID));
+        let rest = lesser_number(
+            length_fault(amount),
+            number_when(self.has_grid, NOT_IN_GRID),
+        );
         changed_placer(lesser_number(placer_fault(self), rest), self, new)
     }
 

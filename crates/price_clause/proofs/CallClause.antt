@@ -170,7 +170,7 @@ module _ (text : List ℕ) (known : Bool) (m : Memory) (sizing : Bool) (out : Li
       go (checked-of.Accepted r w) = price-clause .whole (sheetIn text) (of-text text) known m sizing .1
 
 -- ---- all further calls
-all-further : (text : List ℕ) → sheetIn text .«has_grid» ≡ true → (m : Memory) (count : ℕ) (p : ℕ → Passed) (out : ℕ → List ℤ)
+all-further : (text : List ℕ) → sheetIn text .heading .«has_grid» ≡ true → (m : Memory) (count : ℕ) (p : ℕ → Passed) (out : ℕ → List ℤ)
     → InTurn text m count p out → p 0 .laid ≡ Accepted → p 1 .laid ≡ Accepted → (n : ℕ) → n + 2 < count → SecondAgain p out (n + 2)
 all-further text g m count p out t a b n l =
     let (r, w, k) = not-turned-back text false m true (out 0) (p 0) (out 1) (t .first (omega arith)) a in

@@ -92,7 +92,7 @@ begins k s = regionFromMaxRect k (s .heading .layout) (s .heading .«max_rect»)
 
 abbrev pub headOfSheet : ℕ → Sheet → HeadF Float
 headOfSheet k s =
-    head (begins k s) (s .heading .«max_rect») (s .heading .spacing) (s .options .«min_cell_size») (s .options .«start_row»)
+    head (begins k s) (s .heading .«max_rect») (s .heading .spacing) (s .heading .options .«min_cell_size») (s .heading .options .«start_row»)
 
 region-max : (k : ℕ) (s : Sheet) → begins k s .«max_rect» ≡ s .heading .«max_rect»
 unfolding regionFromMaxRect
@@ -105,7 +105,7 @@ region-cursor k s = refl
 -- what is asked of an accepted beginning
 pub record Begun (k : ℕ) (s : Sheet) : Type 0 where
   pub direction : fitsGrid (s .heading .layout .«main_dir») ≡ true
-  pub smallest : sizeFault (s .options .«min_cell_size») ≡ 0
+  pub smallest : sizeFault (s .heading .options .«min_cell_size») ≡ 0
   pub point : OnePoint (begins k s .«min_rect»)
   pub left : Edge k (begins k s .«min_rect» .left)
   pub top : Edge k (begins k s .«min_rect» .top)
@@ -133,11 +133,11 @@ module _ (k : ℕ) (l : k ≤ 6) (s : Sheet) (known : Bool) (m : Memory) (sizing
 
     pub begin-spot : spotOf (gridStart k s known m sizing) ≡ beginF (headOfSheet k s)
     unfolding newPlacer
-    begin-spot = new-spot (begins k s) (s .heading .«max_rect») (s .heading .spacing) (s .options .«min_cell_size») (s .options .«start_row») known m sizing (s .options .«max_cell_size») (s .options .«num_columns») left-is top-is (p .point)
+    begin-spot = new-spot (begins k s) (s .heading .«max_rect») (s .heading .spacing) (s .heading .options .«min_cell_size») (s .heading .options .«start_row») known m sizing (s .heading .options .«max_cell_size») (s .heading .options .«num_columns») left-is top-is (p .point)
 
     pub begin-given : givenOf (gridStart k s known m sizing .grid) ≡ givenF (headOfSheet k s) sizing (record { cols = widths (knownMemory known m); rows = heights (knownMemory known m) })
     unfolding newPlacer
-    begin-given = new-given (begins k s) (s .heading .«max_rect») (s .heading .spacing) (s .options .«min_cell_size») (s .options .«start_row») known m sizing (s .options .«max_cell_size») (s .options .«num_columns») (region-max k s) left-is
+    begin-given = new-given (begins k s) (s .heading .«max_rect») (s .heading .spacing) (s .heading .options .«min_cell_size») (s .heading .options .«start_row») known m sizing (s .heading .options .«max_cell_size») (s .heading .options .«num_columns») (region-max k s) left-is
 
 -- ---- in whole steps
 module _ (k B : ℕ) (l : k ≤ 6) (b : B ≡ most k) where
@@ -155,7 +155,7 @@ module _ (k B : ℕ) (l : k ≤ 6) (b : B ≡ most k) where
   sheet-headed s w n p =
       let left = edge-counted k B l b (w .rect .left) in
       let top = edge-counted k B l b (w .rect .top) in
-      let a = not-negative (s .options .«min_cell_size») (p .smallest) in
+      let a = not-negative (s .heading .options .«min_cell_size») (p .smallest) in
       let minW = length-counted k B l b (w .smallest .x) (a .0) in
       let minH = length-counted k B l b (w .smallest .y) (a .1) in
       let gapX = gap-counted k B l b (w .spacing .x) (n .across) in
@@ -169,7 +169,7 @@ module _ (k B : ℕ) (l : k ≤ 6) (b : B ≡ most k) where
         minH = minH .count;
         gapX = gapX .count;
         gapY = gapY .count;
-        start = s .options .«start_row»;
+        start = s .heading .options .«start_row»;
         seedX = seedX .count;
         seedY = seedY .count;
       } in

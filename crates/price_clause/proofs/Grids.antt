@@ -1,7 +1,7 @@
 -- The price clause of grids: of two grid sheets that hold only controls and row ends, without negative spacing, alike but for larger controls
 -- in the second, both accepted in two passes, no frame of the second sheet's second pass starts further left or higher or is narrower or less
 -- tall, and its plate is at least as wide and as tall. Assumes nothing.
-use Prim.Native.Nat.{ℕ, _≤_}
+use Prim.Native.Nat.{ℕ, _+_, _≤_}
 use mathlib.Core.Path.{_≡_, refl, ap, sym, _∙_, subst}
 use mathlib.Core.Bool.{Bool, true, false}
 use mathlib.Core.List.{List, map, Forall₂}
@@ -41,14 +41,14 @@ abbrev memoryOf : Memory → MemF Float
 memoryOf m = record { cols = widths m; rows = heights m }
 
 abbrev lastRun : ℕ → Sheet → Bool → Memory → Bool → Ran
-lastRun k s known m sizing = runFrom k (s .heading .spacing) 3 (gridStart k s known m sizing) (s .steps)
+lastRun k s known m sizing = runFrom k (s .heading .spacing) (s .heading .records + 1) (gridStart k s known m sizing) (s .steps)
 
 -- ---- passes
-first-pass : (k : ℕ) (s : Sheet) (none : Memory) → s .«has_grid» ≡ true → passes k s none 0 .number ≡ 0 → GridPass k s false none true
+first-pass : (k : ℕ) (s : Sheet) (none : Memory) → s .heading .«has_grid» ≡ true → passes k s none 0 .number ≡ 0 → GridPass k s false none true
 unfolding passes
 first-pass k s none g one = grid-pass k s false none true g one
 
-second-pass : (k : ℕ) (s : Sheet) (none : Memory) → s .«has_grid» ≡ true → passes k s none 1 .number ≡ 0 → GridPass k s true (passes k s none 0 .memory) false
+second-pass : (k : ℕ) (s : Sheet) (none : Memory) → s .heading .«has_grid» ≡ true → passes k s none 1 .number ≡ 0 → GridPass k s true (passes k s none 0 .memory) false
 unfolding passes
 second-pass k s none g two = grid-pass k s true (passes k s none 0 .memory) false g two
 
@@ -64,10 +64,10 @@ record ByEngine (k : ℕ) (s : Sheet) (none : Memory) (ms : List model.Step) (h 
 module _ (k B : ℕ) (l : k ≤ 6) (b : B ≡ most k) (s : Sheet) (ms : List model.Step) (c : Counts k B (s .steps) ms) where
   module _ (known : Bool) (m : Memory) (sizing : Bool) (p : GridPass k s known m sizing) where
     starts : InGrid (gridStart k s known m sizing)
-    starts = record { grid = refl; sound = new-sound (start k s known m sizing .region) known m sizing (s .heading .spacing) (s .options .«min_cell_size») (s .options .«max_cell_size») (s .options .«num_columns») (s .options .«start_row») }
+    starts = record { grid = refl; sound = new-sound (start k s known m sizing .region) known m sizing (s .heading .spacing) (s .heading .options .«min_cell_size») (s .heading .options .«max_cell_size») (s .heading .options .«num_columns») (s .heading .options .«start_row») }
 
-    follows : Follows k B l b (s .heading .spacing) 3 3 (gridStart k s known m sizing) (s .steps) ms
-    follows = run-follows k B l b (s .heading .spacing) c 3 (gridStart k s known m sizing) starts (p .run) 3
+    follows : Follows k B l b (s .heading .spacing) (s .heading .records + 1) 3 (gridStart k s known m sizing) (s .steps) ms
+    follows = run-follows k B l b (s .heading .spacing) c (s .heading .records + 1) (gridStart k s known m sizing) starts (p .run) 3
 
     -- it is the engine's, from the sheet's head
     engine-pass : passF (ops k) yes (headOfSheet k s) (moves (len k) ms) sizing (memoryOf (knownMemory known m)) ≡ accepted (outOf (lastRun k s known m sizing))
@@ -83,7 +83,7 @@ module _ (k B : ℕ) (l : k ≤ 6) (b : B ≡ most k) (s : Sheet) (ms : List mod
     memory-is = p .memory ∙ saved-is (lastRun k s known m sizing .placer) (follows .still)
 
   -- ---- so the first two are
-  module _ (none : Memory) (g : s .«has_grid» ≡ true) (one : passes k s none 0 .number ≡ 0) (two : passes k s none 1 .number ≡ 0) where
+  module _ (none : Memory) (g : s .heading .«has_grid» ≡ true) (one : passes k s none 0 .number ≡ 0) (two : passes k s none 1 .number ≡ 0) where
     abbrev given : Memory
     given = passes k s none 0 .memory
 
@@ -118,16 +118,19 @@ module _ (k B : ℕ) (l : k ≤ 6) (b : B ≡ most k) (s : Sheet) (ms : List mod
 
 -- ---- the clause
 head-same : (k : ℕ) (a b : Sheet) → GrownSheet a b → headOfSheet k b ≡ headOfSheet k a
-head-same k a b g = rw (g .heading, g .options)
+head-same k a b g = rw (g .heading)
+
+both-grids : (a b : Sheet) → GrownSheet a b → a .heading .«has_grid» ≡ true → b .heading .«has_grid» ≡ true
+both-grids a b g t = rw (g .heading) at t
 
 -- both sheets' records as counts
-counts-of : (k B : ℕ) (l : k ≤ 6) (e : B ≡ most k) (a b : Sheet) (m m′ : Memory) → GrownSheet a b → WholeSheet k a → WholeSheet k b → a .«has_grid» ≡ true
+counts-of : (k B : ℕ) (l : k ≤ 6) (e : B ≡ most k) (a b : Sheet) (m m′ : Memory) → GrownSheet a b → WholeSheet k a → WholeSheet k b → a .heading .«has_grid» ≡ true
     → passes k a m 0 .number ≡ 0 → passes k b m′ 0 .number ≡ 0 → Both k B l e (a .steps) (b .steps)
 counts-of k B l e a b m m′ g wa wb t x y =
     let p = first-pass k a m t x in
-    let q = first-pass k b m′ (sym (g .grid) ∙ t) y in
-    both-counted k B l e (a .heading .spacing) (g .steps) (wa .steps) (wb .steps) 3 3 (gridStart k a false m true) (gridStart k b false m′ true) (p .run)
-    (ap (λ (h : Heading). runFrom k (h .spacing) 3 (gridStart k b false m′ true) (b .steps) .number) (g .heading) ∙ q .run)
+    let q = first-pass k b m′ (both-grids a b g t) y in
+    both-counted k B l e (a .heading .spacing) (g .steps) (wa .steps) (wb .steps) (a .heading .records + 1) (a .heading .records + 1) (gridStart k a false m true) (gridStart k b false m′ true) (p .run)
+    (ap (λ (h : Heading). runFrom k (h .spacing) (h .records + 1) (gridStart k b false m′ true) (b .steps) .number) (g .heading) ∙ q .run)
 
 -- with the limit of the domain a variable
 module _ (k B : ℕ) (l : k ≤ 6) (e : B ≡ most k) (a b : Sheet) (m m′ : Memory) where
@@ -142,17 +145,17 @@ module _ (k B : ℕ) (l : k ≤ 6) (e : B ≡ most k) (a b : Sheet) (m m′ : Me
       let r = grids-in-ticks k B l e yes g fine grown fx fy (x .one) (x .two) (y .one) (y .two) (x .first) (x .second) (y .first) (y .second) in
       rw (x .frames, y .frames, x .plate, y .plate) at r
 
-  in-counts : GrownSheet a b → WholeSheet k a → WholeSheet k b → a .«has_grid» ≡ true → NoNegativeSpacing a
+  in-counts : GrownSheet a b → WholeSheet k a → WholeSheet k b → a .heading .«has_grid» ≡ true → NoNegativeSpacing a
       → passes k a m 0 .number ≡ 0 → passes k a m 1 .number ≡ 0 → passes k b m′ 0 .number ≡ 0 → passes k b m′ 1 .number ≡ 0 → Clause
   in-counts g wa wb t n a₀ a₁ b₀ b₁ =
       let c = counts-of k B l e a b m m′ g wa wb t a₀ b₀ in
       let h = sheet-headed k B l e a wa n (begun k l a false m true (first-pass k a m t a₀)) in
       let x = by-engine k B l e a (c .first) (c .counts) m t a₀ a₁ in
-      let y = by-engine k B l e b (c .second) (c .counts′) m′ (sym (g .grid) ∙ t) b₀ b₁ in
+      let y = by-engine k B l e b (c .second) (c .counts′) m′ (both-grids a b g t) b₀ b₁ in
       of-engine (h .heading) (h .fine) (c .grown) (counts-fit (c .counts)) (counts-fit (c .counts′))
       (subst (ByEngine k a m (c .first)) (h .is) x) (subst (ByEngine k b m′ (c .second)) (head-same k a b g ∙ h .is) y)
 
-pub grids-grow : (k : ℕ) → k ≤ 6 → (a b : Sheet) (m m′ : Memory) → GrownSheet a b → WholeSheet k a → WholeSheet k b → a .«has_grid» ≡ true → NoNegativeSpacing a
+pub grids-grow : (k : ℕ) → k ≤ 6 → (a b : Sheet) (m m′ : Memory) → GrownSheet a b → WholeSheet k a → WholeSheet k b → a .heading .«has_grid» ≡ true → NoNegativeSpacing a
     → passes k a m 0 .number ≡ 0 → passes k a m 1 .number ≡ 0 → passes k b m′ 0 .number ≡ 0 → passes k b m′ 1 .number ≡ 0
     → Forall₂ (λ (c d : Cell). FrameNoLess (inTicks k (c .frame)) (inTicks k (d .frame))) (passes k a m 1 .cells) (passes k b m′ 1 .cells)
     × PlateNoLess (inTicks k (passes k a m 1 .plate)) (inTicks k (passes k b m′ 1 .plate))

@@ -33,7 +33,7 @@ clause-of k l Is w = record {
     two-more : (n : ℕ) → suc (suc n) ≡ n + 2
     two-more n = omega arith
 
-    again : (s : Sheet) → Is s → s .«has_grid» ≡ true → (m : Memory) → passes k s m 0 .number ≡ 0 → passes k s m 1 .number ≡ 0 → (n : ℕ) → passes k s m (n + 2) ≡ passes k s m 1
+    again : (s : Sheet) → Is s → s .heading .«has_grid» ≡ true → (m : Memory) → passes k s m 0 .number ≡ 0 → passes k s m 1 .number ≡ 0 → (n : ℕ) → passes k s m (n + 2) ≡ passes k s m 1
     again s x g m p q n = subst (λ (i : ℕ). passes k s m i ≡ passes k s m 1) (two-more n) (further-passes k l s (w s x) g m p q (suc n))
 
 -- at any step down to 1/64 point

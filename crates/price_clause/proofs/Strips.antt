@@ -91,7 +91,7 @@ CellNoLess k c d = FrameNoLess (inTicks k (c .frame)) (inTicks k (d .frame))
 
 pub record RanNoLess (k : ℕ) (r r′ : Ran) : Type 0 where
   pub cells : Forall₂ (CellNoLess k) (r .cells) (r′ .cells)
-  pub plate : PlateNoLess (inTicks k (plateOf (r .placer))) (inTicks k (plateOf (r′ .placer)))
+  pub plate : PlateNoLess (inTicks k (plateOf r)) (inTicks k (plateOf r′))
 
 module _ (k : ℕ) (l : k ≤ 6) (a : Align) (sp : Vec2) (s : ℤ) (gap : sp .x ≡ val k s) (S : Few s) (some : pos 0 ≤ᶻ s) where
   small : {x : Float} (e : Edge k x) → Few (e .steps)
@@ -100,8 +100,7 @@ module _ (k : ℕ) (l : k ≤ 6) (a : Align) (sp : Vec2) (s : ℤ) (gap : sp .x 
   edge-le : {x y : Float} (d : Edge k x) (e : Edge k y) → le x y ≡ true → d .steps ≤ᶻ e .steps
   edge-le {x} {y} d e h = le-steps k (omega arith) (d .steps) (e .steps) (small d) (small e) (rw (d .is, e .is) at h)
 
-  plate-grows : (o o′ : Place) → Sound o → Sound o′ → Beside o o′ → PlateNoLess (inTicks k (plateOf (placerAt k a o))) (inTicks k (plateOf (placerAt k a o′)))
-  unfolding plateOf
+  plate-grows : (o o′ : Place) → Sound o → Sound o′ → Beside o o′ → PlateNoLess (inTicks k (placerAt k a o .region .«min_rect»)) (inTicks k (placerAt k a o′ .region .«min_rect»))
   plate-grows o o′ O O′ B =
       rw (
         ticks-rect k (omega arith) (o .left) (o .top) (o .right) (o .bottom) (O .left) (O .top) (O .right) (O .bottom),
@@ -121,16 +120,18 @@ module _ (k : ℕ) (l : k ≤ 6) (a : Align) (sp : Vec2) (s : ℤ) (gap : sp .x 
   -- where what comes after a W or an E is no less, it is so with it
   after-control : {n : ℕ} {q q′ : Place} {c c′ : Cell} {x y : List Step} {r r′ : Ran} → Goes k a sp n q (c ∷ []) x r → Goes k a sp n q′ (c′ ∷ []) y r′ → CellNoLess k c c′
       → RanNoLess k (runFrom k sp (n + 1) (placerAt k a q) x) (runFrom k sp (n + 1) (placerAt k a q′) y) → RanNoLess k r r′
+  unfolding plateOf
   after-control g g′ f later =
       record { cells = rw (g .cells, g′ .cells) (Forall₂·cons f (later .cells)); plate = rw (g .placer, g′ .placer) (later .plate) }
 
   after-row-end : {n : ℕ} {q q′ : Place} {x y : List Step} {r r′ : Ran} → Goes k a sp n q [] x r → Goes k a sp n q′ [] y r′
       → RanNoLess k (runFrom k sp (n + 1) (placerAt k a q) x) (runFrom k sp (n + 1) (placerAt k a q′) y) → RanNoLess k r r′
+  unfolding plateOf
   after-row-end g g′ later = record { cells = rw (g .cells, g′ .cells) (later .cells); plate = rw (g .placer, g′ .placer) (later .plate) }
 
   run-grows : {x y : List Step} → Grown x y → WholeSteps k x → WholeSteps k y → (n : ℕ) (o o′ : Place) → Sound o → Sound o′ → Beside o o′
       → runFrom k sp n (placerAt k a o) x .number ≡ 0 → runFrom k sp n (placerAt k a o′) y .number ≡ 0 → RanNoLess k (runFrom k sp n (placerAt k a o) x) (runFrom k sp n (placerAt k a o′) y)
-  run-grows Grown.none X Y n o o′ O O′ B e e′ = unfold runFrom in record { cells = Forall₂·nil; plate = plate-grows o o′ O O′ B }
+  run-grows Grown.none X Y n o o′ O O′ B e e′ = unfold runFrom plateOf in record { cells = Forall₂·nil; plate = plate-grows o o′ O O′ B }
   run-grows (Grown.control {a = x} {b = y} W H G) X Y n o o′ O O′ B e e′ =
       let E = control-whole X in
       let E′ = control-whole Y in
@@ -150,7 +151,7 @@ module _ (k : ℕ) (l : k ≤ 6) (a : Align) (sp : Vec2) (s : ℤ) (gap : sp .x 
 
 -- ---- two passes
 abbrev runOf : ℕ → Heading → List Step → Ran
-runOf k h steps = runFrom k (h .spacing) 2 (newPlacer k (h .«max_rect») (h .layout)) steps
+runOf k h steps = runFrom k (h .spacing) (h .records + 1) (newPlacer k (h .«max_rect») (h .layout)) steps
 
 headed-grows : (k : ℕ) → k ≤ 6 → (h : Heading) (a : Align) → h .layout ≡ strip a → WholeRect k (h .«max_rect») → WholeSize k (h .spacing) → le zeroF (h .spacing .x) ≡ true → rectFault (h .«max_rect») ≡ 0
     → {x y : List Step} → Grown x y → WholeSteps k x → WholeSteps k y → runOf k h x .number ≡ 0 → runOf k h y .number ≡ 0 → RanNoLess k (runOf k h x) (runOf k h y)
@@ -161,7 +162,7 @@ headed-grows k l h a i W S some f {x} {y} G X Y e e′ =
     let s = S .x .steps in
     let F = edge-small k (omega arith) (S .x) in
     let P = le-steps k (omega arith) (pos 0) s (omega arith) F (rw (zero-steps k (omega arith), S .x .is) at some) in
-    rw start (run-grows k l a (h .spacing) s (S .x .is) F P G X Y 2 o o (b .sound) (b .sound) (beside-itself o) (rw start at e) (rw start at e′))
+    rw start (run-grows k l a (h .spacing) s (S .x .is) F P G X Y (h .records + 1) o o (b .sound) (b .sound) (beside-itself o) (rw start at e) (rw start at e′))
 
 pub strips-grow : (k : ℕ) → k ≤ 6 → (a b : Sheet) → GrownSheet a b → WholeSheet k a → WholeSheet k b → Strip a → NoNegativeSpacing a
     → (known known′ : Bool) (m m′ : Memory) (sizing sizing′ : Bool)
@@ -170,7 +171,7 @@ pub strips-grow : (k : ℕ) → k ≤ 6 → (a b : Sheet) → GrownSheet a b →
     × PlateNoLess (inTicks k (pass k a known m sizing .plate)) (inTicks k (pass k b known′ m′ sizing′ .plate))
 strips-grow k l a b G A B S N known known′ m m′ sizing sizing′ e e′ =
     let P = plain-pass k a known m sizing (S .no-grid) e in
-    let P′ = plain-pass k b known′ m′ sizing′ (sym (G .grid) ∙ S .no-grid) e′ in
+    let P′ = plain-pass k b known′ m′ sizing′ (ap (λ (h : Heading). h .«has_grid») (sym (G .heading)) ∙ S .no-grid) e′ in
     let i : runOf k (b .heading) (b .steps) ≡ runOf k (a .heading) (b .steps) = ap (λ (h : Heading). runOf k h (b .steps)) (sym (G .heading)) in
     let r = headed-grows k l (a .heading) (S .align) (S .is) (A .rect) (A .spacing) (N .across) (P .rect) (G .steps) (A .steps) (B .steps) (P .run) (rw i at (P′ .run)) in
     (rw (P .cells, P′ .cells, i) (r .cells), rw (P .plate, P′ .plate, i) (r .plate))

@@ -80,27 +80,27 @@ pub record CallClause : Type 0 where
       → Called a known m sizing out p exit → Called b known′ m′ sizing′ out′ q exit′ → p .laid ≡ Accepted → q .laid ≡ Accepted
       → NoLessIn (controls (sheetIn a .steps)) p q exit exit′
   -- two grids so, two calls in turn on each, from the second ones
-  pub grids : (a b : List ℕ) → GrownSheet (sheetIn a) (sheetIn b) → sheetIn a .«has_grid» ≡ true → NoNegativeSpacing (sheetIn a)
+  pub grids : (a b : List ℕ) → GrownSheet (sheetIn a) (sheetIn b) → sheetIn a .heading .«has_grid» ≡ true → NoNegativeSpacing (sheetIn a)
       → (m m′ : Memory) (p q : ℕ → Passed) (out out′ : ℕ → List ℤ) → InTurn a m 2 p out → InTurn b m′ 2 q out′
       → p 0 .laid ≡ Accepted → p 1 .laid ≡ Accepted → q 0 .laid ≡ Accepted → q 1 .laid ≡ Accepted
       → NoLessIn (controls (sheetIn a .steps)) (p 1) (q 1) (out 2) (out′ 2)
   -- every accepted call on a grid, with any records, any memory or none, sizing or not: the memory given back has, for a column that holds
   -- cells, the width of its widest control, or the minimum where that is more
-  pub columns : (text : List ℕ) → sheetIn text .«has_grid» ≡ true → (known : Bool) (m : Memory) (sizing : Bool) (out exit : List ℤ) (p : Passed)
+  pub columns : (text : List ℕ) → sheetIn text .heading .«has_grid» ≡ true → (known : Bool) (m : Memory) (sizing : Bool) (out exit : List ℤ) (p : Passed)
       → Called text known m sizing out p exit → p .laid ≡ Accepted → (c : ℕ) → 0 < length (inColumn c 0 (sheetIn text .steps))
-      → (c < p .memory .cols) × (colWidth (p .memory) c zeroF ≡ widest (sheetIn text .options .«min_cell_size» .x) (inColumn c 0 (sheetIn text .steps)))
+      → (c < p .memory .cols) × (colWidth (p .memory) c zeroF ≡ widest (sheetIn text .heading .options .«min_cell_size» .x) (inColumn c 0 (sheetIn text .steps)))
   -- any number of calls in turn on a grid, the first two accepted: where the cursor's top is on a whole tick at each W of those two, every
   -- call after the second is the second again
-  pub further : (text : List ℕ) → sheetIn text .«has_grid» ≡ true → (m : Memory) (count : ℕ) (p : ℕ → Passed) (out : ℕ → List ℤ)
+  pub further : (text : List ℕ) → sheetIn text .heading .«has_grid» ≡ true → (m : Memory) (count : ℕ) (p : ℕ → Passed) (out : ℕ → List ℤ)
       → InTurn text m count p out → p 0 .laid ≡ Accepted → p 1 .laid ≡ Accepted
       → TopsOnSteps tick (sheetIn text) false m true → TopsOnSteps tick (sheetIn text) true (p 0 .memory) false
       → (n : ℕ) → n + 2 < count → SecondAgain p out (n + 2)
   -- which it is in every accepted call where there is no K
-  pub without-K : (text : List ℕ) → sheetIn text .«has_grid» ≡ true → NoK (sheetIn text .steps)
+  pub without-K : (text : List ℕ) → sheetIn text .heading .«has_grid» ≡ true → NoK (sheetIn text .steps)
       → (known : Bool) (m : Memory) (sizing : Bool) (out exit : List ℤ) (p : Passed) → Called text known m sizing out p exit → p .laid ≡ Accepted
       → TopsOnSteps tick (sheetIn text) known m sizing
   -- more than was asked: every call after the second is the second again, with K too
-  pub all-further : (text : List ℕ) → sheetIn text .«has_grid» ≡ true → (m : Memory) (count : ℕ) (p : ℕ → Passed) (out : ℕ → List ℤ)
+  pub all-further : (text : List ℕ) → sheetIn text .heading .«has_grid» ≡ true → (m : Memory) (count : ℕ) (p : ℕ → Passed) (out : ℕ → List ℤ)
       → InTurn text m count p out → p 0 .laid ≡ Accepted → p 1 .laid ≡ Accepted → (n : ℕ) → n + 2 < count → SecondAgain p out (n + 2)
   -- whole ticks, of every call, accepted or refused: each of the eight places of every W before a fault, or of all W, is exactly the edge of
   -- the pass, and the plate's edges are whole ticks

@@ -40,24 +40,24 @@ pub record PriceClause (k : ℕ) (Is : Sheet → Type 0) : Type 0 where
       → (known known′ : Bool) (m m′ : Memory) (sizing sizing′ : Bool) → Accepted (pass k a known m sizing) → Accepted (pass k b known′ m′ sizing′)
       → NoLess k (pass k a known m sizing) (pass k b known′ m′ sizing′)
   -- two grids, from their second passes
-  pub grids : (a b : Sheet) → Is a → Is b → GrownSheet a b → a .«has_grid» ≡ true → NoNegativeSpacing a → (m m′ : Memory)
+  pub grids : (a b : Sheet) → Is a → Is b → GrownSheet a b → a .heading .«has_grid» ≡ true → NoNegativeSpacing a → (m m′ : Memory)
       → Accepted (passes k a m 0) → Accepted (passes k a m 1) → Accepted (passes k b m′ 0) → Accepted (passes k b m′ 1)
       → NoLess k (passes k a m 1) (passes k b m′ 1)
   -- every accepted pass of a grid, with any records, any memory or none, sizing or not: the memory has, for a column that holds cells, the
   -- width of its widest control, or the minimum where that is more
-  pub columns : (s : Sheet) → Is s → s .«has_grid» ≡ true → (known : Bool) (m : Memory) (sizing : Bool) → Accepted (pass k s known m sizing)
+  pub columns : (s : Sheet) → Is s → s .heading .«has_grid» ≡ true → (known : Bool) (m : Memory) (sizing : Bool) → Accepted (pass k s known m sizing)
       → (c : ℕ) → 0 < length (inColumn c 0 (s .steps))
-      → (c < pass k s known m sizing .memory .cols) × (colWidth (pass k s known m sizing .memory) c zeroF ≡ widest (s .options .«min_cell_size» .x) (inColumn c 0 (s .steps)))
+      → (c < pass k s known m sizing .memory .cols) × (colWidth (pass k s known m sizing .memory) c zeroF ≡ widest (s .heading .options .«min_cell_size» .x) (inColumn c 0 (s .steps)))
   -- where the cursor's top is on a whole step at each W of the first two passes, every pass after the second is the second again
-  pub further : (s : Sheet) → Is s → s .«has_grid» ≡ true → (m : Memory) → Accepted (passes k s m 0) → Accepted (passes k s m 1)
+  pub further : (s : Sheet) → Is s → s .heading .«has_grid» ≡ true → (m : Memory) → Accepted (passes k s m 0) → Accepted (passes k s m 1)
       → TopsOnSteps k s false m true → TopsOnSteps k s true (passes k s m 0 .memory) false → (n : ℕ) → passes k s m (n + 2) ≡ passes k s m 1
   -- which it is where there is no K
-  pub without-K : (s : Sheet) → Is s → s .«has_grid» ≡ true → NoK (s .steps) → (known : Bool) (m : Memory) (sizing : Bool)
+  pub without-K : (s : Sheet) → Is s → s .heading .«has_grid» ≡ true → NoK (s .steps) → (known : Bool) (m : Memory) (sizing : Bool)
       → Accepted (pass k s known m sizing) → TopsOnSteps k s known m sizing
   -- more than was asked: it is so with K too, and the passes after the second need no such condition
-  pub always : (s : Sheet) → Is s → s .«has_grid» ≡ true → (known : Bool) (m : Memory) (sizing : Bool) → Accepted (pass k s known m sizing)
+  pub always : (s : Sheet) → Is s → s .heading .«has_grid» ≡ true → (known : Bool) (m : Memory) (sizing : Bool) → Accepted (pass k s known m sizing)
       → TopsOnSteps k s known m sizing
-  pub all-further : (s : Sheet) → Is s → s .«has_grid» ≡ true → (m : Memory) → Accepted (passes k s m 0) → Accepted (passes k s m 1)
+  pub all-further : (s : Sheet) → Is s → s .heading .«has_grid» ≡ true → (m : Memory) → Accepted (passes k s m 0) → Accepted (passes k s m 1)
       → (n : ℕ) → passes k s m (n + 2) ≡ passes k s m 1
   -- whole steps: the frame and the widget of every W before a fault, or of all, and the plate
   pub whole : (s : Sheet) → Is s → (known : Bool) (m : Memory) (sizing : Bool)

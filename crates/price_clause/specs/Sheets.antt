@@ -22,8 +22,6 @@ pub data Grown : List Step → List Step → Type 0 where
 
 pub record GrownSheet (a b : Sheet) : Type 0 where
   pub heading : a .heading ≡ b .heading
-  pub grid : a .«has_grid» ≡ b .«has_grid»
-  pub options : a .options ≡ b .options
   pub steps : Grown (a .steps) (b .steps)
 
 -- "without negative spacing"
@@ -35,7 +33,7 @@ pub record NoNegativeSpacing (s : Sheet) : Type 0 where
 pub record Strip (s : Sheet) : Type 0 where
   pub align : Align
   pub is : s .heading .layout ≡ strip align
-  pub no-grid : s .«has_grid» ≡ false
+  pub no-grid : s .heading .«has_grid» ≡ false
 
 -- ---- frames and plates in ticks
 -- "no frame of the second sheet starts further left or higher or is narrower or less tall"

@@ -3,10 +3,11 @@ use probe_values::layouts::count_of_flag;
 use probe_values::layouts::number_of_direction;
 use probe_values::rects::number_of_align;
 use records::Checked;
-use records::GridOptions;
 use records::Heading;
 use records::Record;
 use records::Step;
+use records::headings::heading_fault;
+use records::headings::read_heading;
 use records::records::read_record;
 use records::sheets::check;
 use text::Field;
@@ -38,7 +39,7 @@ pub extern "C" fn line_write(out: &mut [u8], at: usize, letter: u8, numbers: &[i
 }
 
 // Its layout's six fields, then max_rect's edges and the spacings.
-fn put_heading(lengths: &mut [f32; 6], counts: &mut [usize; 6], h: Heading) -> u8 {
+fn put_heading(lengths: &mut [f32; 10], counts: &mut [usize; 11], h: Heading) {
     let l = h.layout;
     let main_dir = l.main_dir;
     let main_align = l.main_align;
@@ -55,53 +56,65 @@ fn put_heading(lengths: &mut [f32; 6], counts: &mut [usize; 6], h: Heading) -> u
     lengths[3] = h.max_rect.bottom;
     lengths[4] = h.spacing.x;
     lengths[5] = h.spacing.y;
-    1
 }
 
-// The minimum and the maximum cell; the columns, 0 for not named, and the start row.
-fn put_options(lengths: &mut [f32; 6], counts: &mut [usize; 6], g: GridOptions) -> u8 {
-    lengths[0] = g.min_cell_size.x;
-    lengths[1] = g.min_cell_size.y;
-    lengths[2] = g.max_cell_size.x;
-    lengths[3] = g.max_cell_size.y;
-    counts[0] = g.num_columns;
-    counts[1] = g.start_row;
-    2
+// Whether there is a grid, the minimum and the maximum cell, the columns, 0 for not named, and the start row; then how many records the heading
+// is, and where the next one begins.
+fn put_rest(lengths: &mut [f32; 10], counts: &mut [usize; 11], h: Heading) {
+    let g = h.options;
+    lengths[6] = g.min_cell_size.x;
+    lengths[7] = g.min_cell_size.y;
+    lengths[8] = g.max_cell_size.x;
+    lengths[9] = g.max_cell_size.y;
+    counts[6] = count_of_flag(h.has_grid);
+    counts[7] = g.num_columns;
+    counts[8] = g.start_row;
+    counts[9] = h.records;
+    counts[10] = h.next;
 }
 
-fn put_length(lengths: &mut [f32; 6], kind: u8, x: f32) -> u8 {
+// The first record of the heading that is not as it should be; where there is none, 0, and what the heading says.
+#[no_mangle]
+pub extern "C" fn heading_read(
+    text: &[u8],
+    lengths: &mut [f32; 10],
+    counts: &mut [usize; 11],
+) -> usize {
+    let fault = heading_fault(text);
+    if fault == 0 {
+        let h = read_heading(text);
+        put_heading(lengths, counts, h);
+        put_rest(lengths, counts, h);
+    }
+    fault
+}
+
+fn put_length(lengths: &mut [f32; 2], kind: u8, x: f32) -> u8 {
     lengths[0] = x;
     kind
 }
 
-fn put_step(lengths: &mut [f32; 6], st: Step) -> u8 {
+fn put_step(lengths: &mut [f32; 2], st: Step) -> u8 {
     match st {
         Step::Widget(width, height) => {
             lengths[0] = width;
             lengths[1] = height;
-            3
+            1
         }
-        Step::Space(x) => put_length(lengths, 4, x),
-        Step::RowHeight(x) => put_length(lengths, 5, x),
-        Step::MaxWidth(x) => put_length(lengths, 6, x),
-        Step::MaxHeight(x) => put_length(lengths, 7, x),
-        Step::MinWidth(x) => put_length(lengths, 8, x),
-        Step::MinHeight(x) => put_length(lengths, 9, x),
-        Step::RowEnd => 10,
+        Step::Space(x) => put_length(lengths, 2, x),
+        Step::RowHeight(x) => put_length(lengths, 3, x),
+        Step::MaxWidth(x) => put_length(lengths, 4, x),
+        Step::MaxHeight(x) => put_length(lengths, 5, x),
+        Step::MinWidth(x) => put_length(lengths, 6, x),
+        Step::MinHeight(x) => put_length(lengths, 7, x),
+        Step::RowEnd => 8,
     }
 }
 
-// 0 wrong, 1 a heading, 2 a grid's options, 3 to 10 the steps; places that it does not name keep what they hold.
+// 0 no step, 1 to 8 the steps; places that it does not name keep what they hold.
 #[no_mangle]
-pub extern "C" fn record_read(
-    text: &[u8],
-    at: usize,
-    lengths: &mut [f32; 6],
-    counts: &mut [usize; 6],
-) -> u8 {
+pub extern "C" fn record_read(text: &[u8], at: usize, lengths: &mut [f32; 2]) -> u8 {
     match read_record(text, at) {
-        Record::Heading(h) => put_heading(lengths, counts, h),
-        Record::Grid(g) => put_options(lengths, counts, g),
         Record::Step(st) => put_step(lengths, st),
         Record::Wrong => 0,
     }

@@ -7,17 +7,20 @@ use native.Mathlib.Omega.{arith}
 use lib.ListN.{length, getD, set, drop, length-set, length-drop, drop-of-length-le}
 use lib.Seq.{getD-set-same, getD-set-other, drop-nil}
 use lib.Ieee.{Float, nan}
+use Rattle.records.specs.declared.Heading.{Heading as HeadingOf}
 use Rattle.records.specs.declared.Step.{Step}
 use Rattle.records.specs.declared.Step.the-variants.{Widget, Space, RowHeight, MaxWidth, MaxHeight, MinWidth, MinHeight, RowEnd}
 use Rattle.records.specs.declared.Record.{Record}
-use Rattle.records.specs.declared.Record.the-variants.{Heading, Grid, Step as Steps, Wrong}
+use Rattle.records.specs.declared.Record.the-variants.{Step as Steps, Wrong}
 use Rattle.records.specs.declared.Checked.the-variants.{Accepted, Refused}
 use Rattle.records.specs.Parts.{letter, ends, lengthIn, isLength, lengthValue}
 use Rattle.records.specs.Records.{pick, stepRecord, widgetRecord, recordOf, recordAt, size, rest, nextAt}
-use Rattle.records.specs.Sheets.{recordsFrom, placed, misplaced}
-use Rattle.records.specs.Implementation.Keeping.{storedStep, stored, Says, Kept}
+use Rattle.text.specs.Letters as letters
+use Rattle.records.specs.Headings.{headingIn}
+use Rattle.records.specs.Sheets.{recordsFrom, stepsLeft, wrongFrom}
+use Rattle.records.specs.Implementation.Keeping.{storedStep, stored, Says, Kept, KeptIn, isStep}
 use Rattle.records.proofs.Places.{next-is-rest}
-use Rattle.records.proofs.Reached.{Reached, placed-on, stops, none-left, no-fault}
+use Rattle.records.proofs.Reached.{Reached, step-on, stops, none-left, no-fault}
 
 -- ---- one record: its own two places, no other
 step-length : (ss : List Float) (n : ℕ) (st : Step) → length (storedStep ss n st) ≡ length ss
@@ -33,8 +36,6 @@ step-length ss n RowEnd = refl
 
 pub stored-length : (ss : List Float) (n : ℕ) (r : Record) → length (stored ss n r) ≡ length ss
 unfolding stored
-stored-length ss n (Heading h) = refl
-stored-length ss n (Grid g) = refl
 stored-length ss n (Steps st) = step-length ss n st
 stored-length ss n Wrong = refl
 
@@ -58,13 +59,11 @@ step-below ss n m RowEnd h l = (refl, refl)
 
 below : (ss : List Float) (n m : ℕ) (r : Record) → m < n → n < 513 → Same (stored ss n r) ss m
 unfolding stored
-below ss n m (Heading g) h l = (refl, refl)
-below ss n m (Grid g) h l = (refl, refl)
 below ss n m (Steps st) h l = step-below ss n m st h l
 below ss n m Wrong h l = (refl, refl)
 
 -- ---- a W that is in its place says what is kept
-is-widget : (u : List ℕ) → letter u ≡ 87 → recordOf u ≡ widgetRecord u
+is-widget : (u : List ℕ) → letter u ≡ letters.W → recordOf u ≡ widgetRecord u
 unfolding recordOf
 is-widget u h = rw h
 
@@ -76,18 +75,18 @@ stands ss n x y h =
     let b : getD (set (set ss n x) (513 + n) y) (513 + n) nan ≡ y = getD-set-same (set ss n x) (513 + n) y nan l in
     rw (a, b)
 
-not-placed : (n : ℕ) → placed n Wrong ≡ true → ⊥
-unfolding placed
-not-placed n h = let z : _≡_ {A = ℕ} 0 1 = cc in omega arith
+no-step : isStep Wrong ≡ true → ⊥
+unfolding isStep
+no-step h = let z : _≡_ {A = ℕ} 0 1 = cc in omega arith
 
-says : (u : List ℕ) (ss : List Float) (n : ℕ) → placed n (recordOf u) ≡ true → 513 + n < length ss → Says u (stored ss n (recordOf u)) n
+says : (u : List ℕ) (ss : List Float) (n : ℕ) → isStep (recordOf u) ≡ true → 513 + n < length ss → Says u (stored ss n (recordOf u)) n
 unfolding widgetRecord stepRecord
 says u ss n p l h = go (isLength (lengthIn u 0) && isLength (lengthIn u 1) && ends u 2) (lengthValue (lengthIn u 0)) (lengthValue (lengthIn u 1)) (is-widget u h)
   where
     go : (b : Bool) (x y : Float) → recordOf u ≡ pick b (Steps (Widget x y)) Wrong
         → recordOf u ≡ Steps (Widget (getD (stored ss n (recordOf u)) n nan) (getD (stored ss n (recordOf u)) (513 + n) nan))
     go true x y e = rw e (stands ss n x y l)
-    go false x y e = absurd (not-placed n (ap (λ (r : Record). placed n r) (sym e) ∙ p))
+    go false x y e = absurd (no-step (ap (λ (r : Record). isStep r) (sym e) ∙ p))
 
 -- ---- all of them
 unfoldable pub filled : ℕ → List ℕ → List Float → ℕ → List Float
@@ -109,27 +108,27 @@ says-same u ss ts n e h w = h w ∙ rw (e .0, e .1)
 
 -- of the record at the front, what the rest leaves as it is
 module _ (left : ℕ) (b : ℕ) (s : List ℕ) (ss : List Float) (n : ℕ) where
-  front-says : placed n (recordOf (b ∷ s)) ≡ true → n + 1 + left ≤ 513 → 513 + n < length ss → Says (b ∷ s) (filled left (rest (b ∷ s)) (stored ss n (recordOf (b ∷ s))) (n + 1)) n
+  front-says : isStep (recordOf (b ∷ s)) ≡ true → n + 1 + left ≤ 513 → 513 + n < length ss → Says (b ∷ s) (filled left (rest (b ∷ s)) (stored ss n (recordOf (b ∷ s))) (n + 1)) n
   front-says e few l =
       let mid = stored ss n (recordOf (b ∷ s)) in
       says-same (b ∷ s) mid (filled left (rest (b ∷ s)) mid (n + 1)) n (filled-below left (rest (b ∷ s)) mid (n + 1) n (omega arith) few) (says (b ∷ s) ss n e l)
 
-first-placed : (n : ℕ) (r : Record) (rs : List Record) → 0 < n → misplaced n (r ∷ rs) ≡ 0 → placed n r ≡ true
-first-placed n r rs N m = go (placed n r) refl
+first-step : (n : ℕ) (r : Record) (rs : List Record) → 0 < n → wrongFrom n (r ∷ rs) ≡ 0 → isStep r ≡ true
+first-step n r rs N m = go (isStep r) refl
   where
-    go : (p : Bool) → placed n r ≡ p → placed n r ≡ true
+    go : (p : Bool) → isStep r ≡ p → isStep r ≡ true
     go true e = e
     go false e = absurd (omega (arith, stops n r rs 0 e m))
 
-pub filled-kept : (left : ℕ) (s : List ℕ) (ss : List Float) (n : ℕ) → 0 < n → misplaced n (recordsFrom left s) ≡ 0 → n + left ≤ 513 → length ss ≡ 1026 → Kept left s (filled left s ss n) n
+pub filled-kept : (left : ℕ) (s : List ℕ) (ss : List Float) (n : ℕ) → 0 < n → wrongFrom n (recordsFrom left s) ≡ 0 → n + left ≤ 513 → length ss ≡ 1026 → Kept left s (filled left s ss n) n
 unfolding Kept recordsFrom filled
 filled-kept zero s ss n N m few l = tt
 filled-kept (suc left) [] ss n N m few l = tt
 filled-kept (suc left) (b ∷ s) ss n N m few l =
     let r = recordOf (b ∷ s) in
-    let e : placed n r ≡ true = first-placed n r (recordsFrom left (rest (b ∷ s))) N m in (
+    let e : isStep r ≡ true = first-step n r (recordsFrom left (rest (b ∷ s))) N m in (
       front-says left b s ss n e (omega arith) (omega arith),
-      filled-kept left (rest (b ∷ s)) (stored ss n r) (n + 1) (omega arith) (placed-on n r (recordsFrom left (rest (b ∷ s))) 0 e m) (omega arith) (stored-length ss n r ∙ l),
+      filled-kept left (rest (b ∷ s)) (stored ss n r) (n + 1) (omega arith) (step-on n r (recordsFrom left (rest (b ∷ s))) 0 e m) (omega arith) (stored-length ss n r ∙ l),
     )
 
 -- ---- as the check goes through a text
@@ -160,6 +159,9 @@ module _ (s : List ℕ) (ss : List Float) (at k left : ℕ) (all : List Float) (
   pub filled-ended : length s ≤ at → ss ≡ all
   filled-ended h = sym (nothing-left left ss (k + 1)) ∙ ap (λ (u : List ℕ). filled left u ss (k + 1)) (sym (drop-of-length-le s h)) ∙ inv
 
+pub filled-from : (s : List ℕ) (ss : List Float) (h : HeadingOf) → h ≡ headingIn s → filled (512 - h .records) (drop (h .next) s) ss (h .records + 1) ≡ filled (stepsLeft s) (drop (headingIn s .next) s) ss (headingIn s .records + 1)
+filled-from s ss h e = rw e
+
 -- ---- as a walk goes through it
 none-kept : (left : ℕ) (ss : List Float) (n : ℕ) → Kept left [] ss n
 unfolding Kept
@@ -188,8 +190,10 @@ module _ (s : List ℕ) (ss : List Float) (at n left : ℕ) (k : Kept left (drop
 pub refused-not : (a b k w : ℕ) → Refused a b ≡ Accepted k w → ⊥
 refused-not a b k w e = let z : _≡_ {A = ℕ} 0 1 = cc in omega arith
 
-pub ended-kept : (s : List ℕ) (ss ss₀ : List Float) (at k w left : ℕ) → Reached s at k w left → filled left (drop at s) ss (k + 1) ≡ filled 512 s ss₀ 1 → length ss₀ ≡ 1026 → length s ≤ at → Kept 512 s ss 1
-ended-kept s ss ss₀ at k w left h inv l out =
+pub ended-kept : (s : List ℕ) (ss ss₀ : List Float) (at k w left : ℕ) → Reached s at k w left
+    → filled left (drop at s) ss (k + 1) ≡ filled (stepsLeft s) (drop (headingIn s .next) s) ss₀ (headingIn s .records + 1) → headingIn s .records ≤ 512 → length ss₀ ≡ 1026 → length s ≤ at → KeptIn s ss
+ended-kept s ss ss₀ at k w left h inv few l out =
     let none : recordsFrom left (drop at s) ≡ [] = ap (λ (u : List ℕ). recordsFrom left u) (drop-of-length-le s out) ∙ none-left left in
-    let e : ss ≡ filled 512 s ss₀ 1 = filled-ended s ss at k left (filled 512 s ss₀ 1) inv out in
-    subst (λ (z : List Float). Kept 512 s z 1) (sym e) (filled-kept 512 s ss₀ 1 (omega arith) (sym (no-fault s at k w left h none)) (omega arith) l)
+    let all = filled (stepsLeft s) (drop (headingIn s .next) s) ss₀ (headingIn s .records + 1) in
+    let e : ss ≡ all = filled-ended s ss at k left all inv out in
+    subst (λ (z : List Float). KeptIn s z) (sym e) (filled-kept (stepsLeft s) (drop (headingIn s .next) s) ss₀ (headingIn s .records + 1) (omega arith) (sym (no-fault s at k w left h none)) (omega arith) l)

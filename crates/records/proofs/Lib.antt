@@ -1,6 +1,7 @@
 -- The laws of records. Layers above cite them as Rattle.records.proofs.NAME.
 pub mod Lengths
 pub mod Places
+pub mod HeadingFaults
 pub mod Reached
 pub mod Prefixes
 pub mod Keeping

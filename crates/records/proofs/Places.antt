@@ -2,14 +2,18 @@
 use Prim.Native.Nat.{ℕ, zero, suc, _+_, _-_, _*_, _≤_, _<_, min}
 use mathlib.Core.Path.{_≡_, ap, sym, _∙_}
 use mathlib.Core.List.{List, [], _∷_}
+use mathlib.Core.Bool.{Bool, true, false, cond}
 use native.Mathlib.Omega.{arith}
 use native.Mathlib.Nat.{add-zero, min-eq-left, min-eq-right, min-le-right, zero-min, suc-min-suc}
+use lib.Dec.{eqb}
 use lib.ListN.{length, getD, take, drop, length-drop, drop-of-length-le}
 use lib.Seq.{getD-drop, drop-drop, drop-nil, take-all}
+use Rattle.text.specs.Letters as letters
 use Rattle.records.specs.Parts.{letter}
 use Rattle.records.specs.declared.Record.{Record}
 use Rattle.records.specs.declared.Record.the-variants.{Wrong}
 use Rattle.records.specs.Records.{recordOf, recordAt, singleRecord, fieldCount, size, rest, nextAt}
+use Rattle.records.specs.Headings.{hasGrid, headingIn}
 
 -- ---- read_record
 pub beyond : (s : List ℕ) (at : ℕ) → length s < at → Wrong ≡ recordAt s at
@@ -53,3 +57,19 @@ next-is-rest s at = to-the-end s (at + size (drop at s)) ∙ sym (drop-drop (siz
 pub next-within : (s : List ℕ) (at : ℕ) → nextAt s at ≤ length s
 unfolding nextAt
 next-within s at = min-le-right _ _
+
+-- ---- what comes before the steps
+pub grid-there : (s : List ℕ) (at b : ℕ) → at ≡ nextAt s 0 → b ≡ getD s at 0 → eqb b letters.G ≡ hasGrid s
+unfolding hasGrid
+grid-there s at b ea eb = ap (λ (x : ℕ). eqb x letters.G) (eb ∙ ap (λ (n : ℕ). getD s n 0) ea ∙ sym (letter-at s (nextAt s 0)) ∙ ap letter (next-is-rest s 0))
+
+pub part-rest : (s : List ℕ) (at : ℕ) → at ≡ nextAt s 0 → take (length s - at) (drop at s) ≡ rest s
+part-rest s at e = take-all (length s - at) (drop at s) (omega (arith, length-drop at s)) ∙ ap (λ (n : ℕ). drop n s) e ∙ next-is-rest s 0
+
+pub heading-within : (s : List ℕ) → headingIn s .next ≤ length s
+unfolding headingIn
+heading-within s = go (hasGrid s)
+  where
+    go : (b : Bool) → cond b (nextAt s (nextAt s 0)) (nextAt s 0) ≤ length s
+    go true = next-within s (nextAt s 0)
+    go false = next-within s 0

@@ -3,17 +3,19 @@
 use Prim.Native.Nat.{ℕ, zero, suc, _+_, _-_, _*_, _≤_, _<_}
 use mathlib.Core.Path.{_≡_, refl, ap, sym, _∙_}
 use mathlib.Core.List.{List, [], _∷_}
-use mathlib.Core.Bool.{Bool, true, false}
+use mathlib.Core.Bool.{Bool, true, false, cond}
 use native.Mathlib.Omega.{arith}
+use native.Mathlib.Nat.{zero-add, min-eq-left, min-le-left}
 use borrow.Author.Tests.{leb-true, leb-false, le-leb, lt-leb}
-use lib.Dec.{leb, ltb, eqb}
-use lib.IntN.{pos}
-use lib.ListN.{length, getD, take, drop, length-take, length-drop}
+use lib.Dec.{leb, eqb}
+use lib.ListN.{length, take, drop, length-take, length-drop}
 use lib.Seq.{getD-take, take-take, take-nil, length-take-le}
+use Rattle.emath.specs.Numbers as number
 use Rattle.text.specs.Fields.{fieldAt}
 use Rattle.records.specs.Parts.{letter, ends, lengthIn, countIn}
-use Rattle.records.specs.Records.{pairFits, pairIn, layoutFits, layoutIn, rectIn, headingRecord, maximaFit, maximaIn, optionsIn, gridRecord, stepRecord, widgetRecord, singleRecord, recordOf, fieldCount, size, rest}
-use Rattle.records.specs.Sheets.{recordsFrom, records, after, misplaced, isEmpty, pick, checked}
+use Rattle.records.specs.Records.{pairFits, pairIn, layoutFits, layoutIn, rectIn, headingFits, maximaFit, maximaIn, optionsIn, gridFits, stepRecord, widgetRecord, singleRecord, recordOf, fieldCount, size, rest, nextAt}
+use Rattle.records.specs.Headings.{hasGrid, headingIn, headingFault}
+use Rattle.records.specs.Sheets.{recordsFrom, stepsLeft, records, after, afterAll, misplaced, pick, checked}
 use Rattle.records.specs.declared.Step.{Step}
 use Rattle.records.specs.declared.Record.{Record}
 use Rattle.records.specs.declared.Checked.the-variants.{Refused}
@@ -78,9 +80,9 @@ module _ (m : ℕ) (h : 98 ≤ m) (s : List ℕ) where
   unfolding rectIn
   same-rect = rw (same-pair 6 (omega arith), same-pair 8 (omega arith))
 
-  same-heading : headingRecord t ≡ headingRecord s
-  unfolding headingRecord
-  same-heading = rw (same-layout-fits, same-pair-fits 6 (omega arith), same-pair-fits 8 (omega arith), same-pair-fits 10 (omega arith), same-ends 12 (omega arith), same-layout, same-rect, same-pair 10 (omega arith))
+  same-heading-fits : headingFits t ≡ headingFits s
+  unfolding headingFits
+  same-heading-fits = rw (same-letter, same-layout-fits, same-pair-fits 6 (omega arith), same-pair-fits 8 (omega arith), same-pair-fits 10 (omega arith), same-ends 12 (omega arith))
 
   same-maxima-fit : maximaFit t ≡ maximaFit s
   unfolding maximaFit
@@ -90,9 +92,9 @@ module _ (m : ℕ) (h : 98 ≤ m) (s : List ℕ) where
   unfolding optionsIn maximaIn
   same-options = rw (same-pair 0 (omega arith), same-length 2 (omega arith), same-length 3 (omega arith), same-count 4 32 (omega arith), same-count 5 127 (omega arith))
 
-  same-grid : gridRecord t ≡ gridRecord s
-  unfolding gridRecord
-  same-grid = rw (same-pair-fits 0 (omega arith), same-maxima-fit, same-count 4 32 (omega arith), same-count 5 127 (omega arith), same-ends 6 (omega arith), same-options)
+  same-grid-fits : gridFits t ≡ gridFits s
+  unfolding gridFits
+  same-grid-fits = rw (same-pair-fits 0 (omega arith), same-maxima-fit, same-count 4 32 (omega arith), same-count 5 127 (omega arith), same-ends 6 (omega arith))
 
   same-step : (n : ℕ) → n ≤ 12 → (fits : Bool) (step : Step) → stepRecord t n fits step ≡ stepRecord s n fits step
   unfolding stepRecord
@@ -108,7 +110,7 @@ module _ (m : ℕ) (h : 98 ≤ m) (s : List ℕ) where
 
   pub same-record : recordOf t ≡ recordOf s
   unfolding recordOf
-  same-record = rw (same-letter, same-heading, same-grid, same-widget, same-step 0 (omega arith), same-single (letter s))
+  same-record = rw (same-letter, same-widget, same-step 0 (omega arith), same-single (letter s))
 
 -- ---- a record has at most 98 bytes
 few-fields : (l : ℕ) → fieldCount l ≤ 12
@@ -148,13 +150,96 @@ unfolding after
 left-after zero s h = omega arith
 left-after (suc left) s h = left-after left (rest s) (omega (arith, length-drop (size s) s, small-size s))
 
--- ---- 1 to 3
-some : (s : List ℕ) (room : ℕ) → 50176 < length s → checked s room ≡ pick (ltb 0 (misplaced 1 (records s))) (Refused 1 (misplaced 1 (records s))) (Refused 2 513)
-unfolding checked
-some s room h = rw (not-empty s (omega arith), not-empty (after 512 s) (left-after 512 s (omega arith)))
+-- ---- the heading within the prefix
+pub few-records : (s : List ℕ) → (1 ≤ headingIn s .records) × (headingIn s .records ≤ 2)
+unfolding headingIn
+few-records s = go (hasGrid s)
+  where
+    go : (b : Bool) → (1 ≤ cond b 2 1) × (cond b 2 1 ≤ 2)
+    go true = (omega arith, omega arith)
+    go false = (omega arith, omega arith)
 
-pub long-text : (s : List ℕ) (room : ℕ) → 50177 ≤ length s → (checked (take 50177 s) room ≡ checked s room) × (records (take 50177 s) ≡ records s)
+-- of a long text no record reaches its end
+next-is : (s : List ℕ) (at : ℕ) → at + 98 ≤ length s → nextAt s at ≡ at + size (drop at s)
+unfolding nextAt
+next-is s at h = min-eq-left (omega (arith, small-size (drop at s)))
+
+second-is : (s : List ℕ) → 98 ≤ length s → nextAt s 0 ≡ size s
+second-is s h = next-is s 0 (omega arith) ∙ zero-add (size s)
+
+module _ (m : ℕ) (s : List ℕ) (h : 300 ≤ m) (long : m ≤ length s) where
+  abbrev t′ : List ℕ
+  t′ = take m s
+
+  size-same : size t′ ≡ size s
+  size-same = ap (λ (l : ℕ). 2 + 8 * fieldCount l) (same-letter m (omega arith) s)
+
+  rest-same : rest t′ ≡ take (m - size s) (rest s)
+  rest-same = ap (λ (n : ℕ). drop n t′) size-same ∙ drop-take (size s) m s
+
+  grid-same : hasGrid t′ ≡ hasGrid s
+  unfolding hasGrid
+  grid-same = rw (rest-same, same-letter (m - size s) (omega (arith, small-size s)) (rest s))
+
+  options-same : optionsIn (rest t′) ≡ optionsIn (rest s)
+  options-same = ap optionsIn rest-same ∙ same-options (m - size s) (omega (arith, small-size s)) (rest s)
+
+  grid-fits-same : gridFits (rest t′) ≡ gridFits (rest s)
+  grid-fits-same = ap gridFits rest-same ∙ same-grid-fits (m - size s) (omega (arith, small-size s)) (rest s)
+
+  second-same : nextAt t′ 0 ≡ nextAt s 0
+  second-same = second-is t′ (omega (arith, length-take-le m s long)) ∙ size-same ∙ sym (second-is s (omega arith))
+
+  third-same : nextAt t′ (nextAt t′ 0) ≡ nextAt s (nextAt s 0)
+  third-same =
+      let a : nextAt s 0 ≡ size s = second-is s (omega arith) in
+      let z = small-size s in
+      let d : size (drop (size s) t′) ≡ size (rest s) = ap size (sym (ap (λ (n : ℕ). drop n t′) size-same) ∙ rest-same) ∙ ap (λ (l : ℕ). 2 + 8 * fieldCount l) (same-letter (m - size s) (omega arith) (rest s)) in
+      ap (nextAt t′) (second-same ∙ a) ∙ next-is t′ (size s) (omega (arith, length-take-le m s long)) ∙ ap (λ (n : ℕ). size s + n) d ∙ sym (next-is s (size s) (omega arith)) ∙ ap (nextAt s) (sym a)
+
+  pub heading-same : headingIn t′ ≡ headingIn s
+  unfolding headingIn
+  heading-same = rw (same-layout m (omega arith) s, same-rect m (omega arith) s, same-pair m (omega arith) s 10 (omega arith), grid-same, options-same, third-same, second-same)
+
+  fault-same : headingFault t′ ≡ headingFault s
+  unfolding headingFault
+  fault-same = rw (same-heading-fits m (omega arith) s, grid-same, grid-fits-same)
+
+near : (s : List ℕ) (at : ℕ) → nextAt s at ≤ at + 98
+unfolding nextAt
+near s at = omega (arith, min-le-left (at + size (drop at s)) (length s), small-size (drop at s))
+
+-- the heading is no longer than its records may be
+next-few : (s : List ℕ) → headingIn s .next ≤ 98 * headingIn s .records
+unfolding headingIn
+next-few s = go (hasGrid s)
+  where
+    go : (b : Bool) → cond b (nextAt s (nextAt s 0)) (nextAt s 0) ≤ 98 * cond b 2 1
+    go true = omega (arith, near s 0, near s (nextAt s 0))
+    go false = omega (arith, near s 0)
+
+-- ---- 1 to 3
+some : (s : List ℕ) (room : ℕ) → 50176 < length s → checked s room ≡ pick (eqb (misplaced s) 0) (Refused number.tooLong 513) (Refused number.malformed (misplaced s))
+unfolding checked
+some s room h =
+    let f = few-records s in
+    rw (not-empty (afterAll s) (left-after (stepsLeft s) (drop (headingIn s .next) s) (omega (arith, next-few s, length-drop (headingIn s .next) s))))
+
+pub record Prefix (s : List ℕ) (room : ℕ) : Type 0 where
+  pub check : checked (take 50177 s) room ≡ checked s room
+  pub heading : headingIn (take 50177 s) ≡ headingIn s
+  pub steps : records (take 50177 s) ≡ records s
+
+pub long-text : (s : List ℕ) (room : ℕ) → 50177 ≤ length s → Prefix s room
+unfolding misplaced
 long-text s room h =
-    let r : records (take 50177 s) ≡ records s = same-records 512 50177 s (omega arith) in
+    let g : headingIn (take 50177 s) ≡ headingIn s = heading-same 50177 s (omega arith) h in
+    let f = few-records s in
+    let d : drop (headingIn s .next) (take 50177 s) ≡ take (50177 - headingIn s .next) (drop (headingIn s .next) s) = drop-take (headingIn s .next) 50177 s in
+    let r : records (take 50177 s) ≡ records s = rw (g, d) (same-records (stepsLeft s) (50177 - headingIn s .next) (drop (headingIn s .next) s) (omega (arith, next-few s))) in
     let l : length (take 50177 s) ≡ 50177 = length-take-le 50177 s h in
-    (some (take 50177 s) room (omega (arith, l)) ∙ rw r (sym (some s room (omega arith))), r)
+    record {
+      check = some (take 50177 s) room (omega (arith, l)) ∙ rw (fault-same 50177 s (omega arith) h, r, g) (sym (some s room (omega arith)));
+      heading = g;
+      steps = r;
+    }

@@ -3,41 +3,41 @@
 use Prim.Native.Nat.{ℕ, zero, suc, _+_, _-_, _≤_, _<_}
 use mathlib.Core.Path.{_≡_, refl, ap, sym, _∙_}
 use mathlib.Core.List.{List, [], _∷_}
-use mathlib.Core.Bool.{Bool, true, false}
+use mathlib.Core.Bool.{Bool, true, false, true≢false}
 use native.Mathlib.Omega.{arith}
 use native.Mathlib.Nat.{zero-add}
-use borrow.Author.Tests.{lt-ltb}
+use borrow.Author.Tests.{ne-eqb}
 use lib.ListN.{length, drop, length-drop, drop-of-length-le}
 use lib.Seq.{drop-nil}
+use Rattle.emath.specs.Numbers as number
+use Rattle.emath.specs.Refusals.{orElse}
 use Rattle.records.specs.declared.Record.{Record}
+use Rattle.records.specs.declared.Record.the-variants.{Step as Steps, Wrong}
+use Rattle.records.specs.declared.Heading.{Heading}
 use Rattle.records.specs.declared.Checked.{Checked}
 use Rattle.records.specs.declared.Checked.the-variants.{Refused}
 use Rattle.records.specs.Records.{recordOf, recordAt, size, rest, nextAt}
-use Rattle.records.specs.Sheets.{recordsFrom, after, records, placed, misplaced, widget, widgets, isEmpty, pick, sized, checked}
+use Rattle.records.specs.Headings.{headingIn, headingFault}
+use Rattle.records.specs.Sheets.{recordsFrom, after, stepsLeft, records, afterAll, wrongFrom, misplaced, widget, widgets, isEmpty, pick, sized, checked}
+use Rattle.records.specs.Implementation.Keeping.{isStep}
 use Rattle.records.proofs.Places.{next-is-rest}
 
--- the rest of the text, from `at`, has the sheet's fault, and its W and records are those that are missing
+-- the rest of the text, from `at`, has the sheet's first fault after its heading, and its W and records are those that are missing
 pub record Reached (s : List ℕ) (at k w left : ℕ) : Type 0 where
-  pub fault : misplaced (k + 1) (recordsFrom left (drop at s)) ≡ misplaced 1 (records s)
+  pub fault : wrongFrom (k + 1) (recordsFrom left (drop at s)) ≡ wrongFrom (headingIn s .records + 1) (records s)
   pub all-widgets : w + widgets (recordsFrom left (drop at s)) ≡ widgets (records s)
-  pub all-records : k + length (recordsFrom left (drop at s)) ≡ length (records s)
-  pub tail : after left (drop at s) ≡ after 512 s
+  pub all-records : k + length (recordsFrom left (drop at s)) ≡ headingIn s .records + length (records s)
+  pub tail : after left (drop at s) ≡ afterAll s
 
-pub start : (s : List ℕ) → Reached s 0 0 0 512
-start s = record { fault = refl; all-widgets = zero-add _; all-records = zero-add _; tail = refl }
+pub start : (s : List ℕ) → Reached s (headingIn s .next) (headingIn s .records) 0 (stepsLeft s)
+start s = record { fault = refl; all-widgets = zero-add _; all-records = refl; tail = refl }
 
--- ---- lists that are empty, and that are not
-pub empty : {A : Type 0} (l : List A) → length l ≡ 0 → isEmpty l ≡ true
-empty [] h = refl
-empty (x ∷ l) h = absurd (omega arith)
+pub start-at : (s : List ℕ) (h : Heading) → h ≡ headingIn s → Reached s (h .next) (h .records) 0 (512 - h .records)
+start-at s h e = rw e (start s)
 
 pub not-empty : {A : Type 0} (l : List A) → 0 < length l → isEmpty l ≡ false
 not-empty [] h = absurd (omega arith)
 not-empty (x ∷ l) h = refl
-
-pub positive : {n : ℕ} → (n ≡ 0 → ⊥) → 0 < n
-positive {n = zero} h = absurd (h refl)
-positive {n = suc n} h = omega arith
 
 -- ---- one record more
 first-of : (left : ℕ) (u : List ℕ) → 0 < left → 0 < length u → recordsFrom left u ≡ recordOf u ∷ recordsFrom (left - 1) (rest u)
@@ -58,13 +58,15 @@ records-step left s at more here =
     let l : 0 < length (drop at s) = omega (arith, length-drop at s) in
     first-of left (drop at s) more l ∙ rw (next-is-rest s at)
 
-pub placed-on : (k : ℕ) (r : Record) (rs : List Record) (m : ℕ) → placed k r ≡ true → misplaced k (r ∷ rs) ≡ m → misplaced (k + 1) rs ≡ m
-unfolding misplaced
-placed-on k r rs m e h = rw e at h
+pub step-on : (k : ℕ) (r : Record) (rs : List Record) (m : ℕ) → isStep r ≡ true → wrongFrom k (r ∷ rs) ≡ m → wrongFrom (k + 1) rs ≡ m
+unfolding wrongFrom isStep
+step-on k (Steps st) rs m e h = h
+step-on k Wrong rs m e h = absurd (true≢false (sym e))
 
-pub stops : (k : ℕ) (r : Record) (rs : List Record) (m : ℕ) → placed k r ≡ false → misplaced k (r ∷ rs) ≡ m → k ≡ m
-unfolding misplaced
-stops k r rs m e h = rw e at h
+pub stops : (k : ℕ) (r : Record) (rs : List Record) (m : ℕ) → isStep r ≡ false → wrongFrom k (r ∷ rs) ≡ m → k ≡ m
+unfolding wrongFrom isStep
+stops k (Steps st) rs m e h = absurd (true≢false e)
+stops k Wrong rs m e h = h
 
 counted : (w n m : ℕ) (r : Record) (rs : List Record) → n ≡ widget r → w + widgets (r ∷ rs) ≡ m → w + n + widgets rs ≡ m
 unfolding widgets
@@ -74,14 +76,14 @@ module _ (s : List ℕ) (at k w left : ℕ) (h : Reached s at k w left) (more : 
   first : recordsFrom left (drop at s) ≡ r ∷ recordsFrom (left - 1) (drop (nextAt s at) s)
   first = records-step left s at more here ∙ rw er
 
-  pub unplaced : placed (k + 1) r ≡ false → k + 1 ≡ misplaced 1 (records s)
-  unplaced e = stops (k + 1) r _ _ e (ap (λ (rs : List Record). misplaced (k + 1) rs) (sym first) ∙ h .fault)
+  no-step : isStep r ≡ false → k + 1 ≡ wrongFrom (headingIn s .records + 1) (records s)
+  no-step e = stops (k + 1) r _ _ e (ap (λ (rs : List Record). wrongFrom (k + 1) rs) (sym first) ∙ h .fault)
 
-  pub next : (n : ℕ) → placed (k + 1) r ≡ true → n ≡ widget r → Reached s (nextAt s at) (k + 1) (w + n) (left - 1)
+  pub next : (n : ℕ) → isStep r ≡ true → n ≡ widget r → Reached s (nextAt s at) (k + 1) (w + n) (left - 1)
   next n e en = record {
-    fault = placed-on (k + 1) r _ _ e (ap (λ (rs : List Record). misplaced (k + 1) rs) (sym first) ∙ h .fault);
+    fault = step-on (k + 1) r _ _ e (ap (λ (rs : List Record). wrongFrom (k + 1) rs) (sym first) ∙ h .fault);
     all-widgets = counted w n _ r _ en (ap (λ (rs : List Record). w + widgets rs) (sym first) ∙ h .all-widgets);
-    all-records = let c : k + length (r ∷ recordsFrom (left - 1) (drop (nextAt s at) s)) ≡ length (records s) = ap (λ (rs : List Record). k + length rs) (sym first) ∙ h .all-records in omega arith;
+    all-records = let c : k + length (r ∷ recordsFrom (left - 1) (drop (nextAt s at) s)) ≡ headingIn s .records + length (records s) = ap (λ (rs : List Record). k + length rs) (sym first) ∙ h .all-records in omega arith;
     tail = rw (next-is-rest s at) (sym (after-first left (drop at s) more) ∙ h .tail);
   }
 
@@ -106,55 +108,55 @@ unfolding after
 all-after zero u h = refl
 all-after (suc left) u h = absurd (omega arith)
 
-none-misplaced : (k : ℕ) → misplaced k [] ≡ 0
-unfolding misplaced
-none-misplaced k = refl
+none-wrong : (k : ℕ) → wrongFrom k [] ≡ 0
+unfolding wrongFrom
+none-wrong k = refl
 
 no-widgets : widgets [] ≡ 0
 unfolding widgets
 no-widgets = refl
 
 module _ (s : List ℕ) (at k w left : ℕ) (h : Reached s at k w left) (none : recordsFrom left (drop at s) ≡ []) where
-  pub no-fault : 0 ≡ misplaced 1 (records s)
-  no-fault = sym (none-misplaced (k + 1)) ∙ ap (λ (rs : List Record). misplaced (k + 1) rs) (sym none) ∙ h .fault
+  pub no-fault : 0 ≡ wrongFrom (headingIn s .records + 1) (records s)
+  no-fault = sym (none-wrong (k + 1)) ∙ ap (λ (rs : List Record). wrongFrom (k + 1) rs) (sym none) ∙ h .fault
 
-  pub widgets-are : w ≡ widgets (records s)
+  widgets-are : w ≡ widgets (records s)
   widgets-are = omega (arith, ap (λ (rs : List Record). w + widgets rs) none, h .all-widgets, no-widgets)
 
-  pub records-are : k ≡ length (records s)
+  records-are : k ≡ headingIn s .records + length (records s)
   records-are = omega (arith, ap (λ (rs : List Record). k + length rs) none, h .all-records)
 
 -- ---- what is answered
 module _ (s : List ℕ) (room : ℕ) where
-  pub on-nothing : length s ≡ 0 → Refused 1 1 ≡ checked s room
-  unfolding checked
-  on-nothing h = rw (empty s h)
+  pub on-heading : (f : ℕ) → f ≡ headingFault s → (f ≡ 0 → ⊥) → Refused number.malformed f ≡ checked s room
+  unfolding checked misplaced orElse
+  on-heading f e h = rw (← e, ne-eqb f 0 h, ne-eqb f 0 h)
 
-  module _ (some : 0 < length s) where
-    at-fault : (m : ℕ) → 0 < m → m ≡ misplaced 1 (records s) → Refused 1 m ≡ checked s room
-    unfolding checked
-    at-fault m h e = rw (not-empty s some, ← e, lt-ltb 0 m h)
+  module _ (well : headingFault s ≡ 0) where
+    at-fault : (m : ℕ) → 0 < m → m ≡ wrongFrom (headingIn s .records + 1) (records s) → Refused number.malformed m ≡ checked s room
+    unfolding checked misplaced orElse
+    at-fault m h e = rw (well, ← e, ne-eqb m 0 (λ z. omega arith))
 
-    answer : (b : Bool) (v : Checked) → 0 ≡ misplaced 1 (records s) → b ≡ isEmpty (after 512 s)
-        → v ≡ sized (length (records s)) (widgets (records s)) room → pick b v (Refused 2 513) ≡ checked s room
-    unfolding checked
-    answer b v em eb ev = rw (not-empty s some, ← em, eb, ev)
+    answer : (b : Bool) (v : Checked) → 0 ≡ wrongFrom (headingIn s .records + 1) (records s) → b ≡ isEmpty (afterAll s)
+        → v ≡ sized (headingIn s .records + length (records s)) (widgets (records s)) room → pick b v (Refused number.tooLong 513) ≡ checked s room
+    unfolding checked misplaced orElse
+    answer b v em eb ev = rw (well, ← em, eb, ev)
 
     module _ (at k w left : ℕ) (h : Reached s at k w left) where
-      pub misplaced-answer : 0 < left → at < length s → (r : Record) → r ≡ recordAt s at → (p : Bool) → p ≡ placed (k + 1) r → p ≡ false → Refused 1 (k + 1) ≡ checked s room
+      pub misplaced-answer : 0 < left → at < length s → (r : Record) → r ≡ recordAt s at → (p : Bool) → p ≡ isStep r → p ≡ false → Refused number.malformed (k + 1) ≡ checked s room
       misplaced-answer more here r er p ep e =
-          at-fault (k + 1) (omega arith) (unplaced s at k w left h more here r er (sym ep ∙ e))
+          at-fault (k + 1) (omega arith) (no-step s at k w left h more here r er (sym ep ∙ e))
 
-      pub too-many : left ≤ 0 → at < length s → Refused 2 513 ≡ checked s room
+      pub too-many : left ≤ 0 → at < length s → Refused number.tooLong 513 ≡ checked s room
       too-many full here =
           let t : isEmpty (drop at s) ≡ false = not-empty (drop at s) (omega (arith, length-drop at s)) in
-          let a : drop at s ≡ after 512 s = sym (all-after left (drop at s) full) ∙ h .tail in
+          let a : drop at s ≡ afterAll s = sym (all-after left (drop at s) full) ∙ h .tail in
           answer false _ (no-fault s at k w left h (no-more left (drop at s) full)) (sym t ∙ ap (λ (u : List ℕ). isEmpty u) a) refl
 
       pub ended-answer : length s ≤ at → (v : Checked) → v ≡ sized k w room → v ≡ checked s room
       ended-answer out v ev =
           let d : drop at s ≡ [] = drop-of-length-le s out in
           let none : recordsFrom left (drop at s) ≡ [] = ap (λ (u : List ℕ). recordsFrom left u) d ∙ none-left left in
-          let a : after 512 s ≡ [] = sym (h .tail) ∙ ap (λ (u : List ℕ). after left u) d ∙ nothing-after left in
+          let a : afterAll s ≡ [] = sym (h .tail) ∙ ap (λ (u : List ℕ). after left u) d ∙ nothing-after left in
           answer true v (no-fault s at k w left h none) (sym (ap (λ (u : List ℕ). isEmpty u) a))
-          (ev ∙ ap (λ (n : ℕ). sized n w room) (records-are s at k w left h none) ∙ ap (λ (n : ℕ). sized (length (records s)) n room) (widgets-are s at k w left h none))
+          (ev ∙ ap (λ (n : ℕ). sized n w room) (records-are s at k w left h none) ∙ ap (λ (n : ℕ). sized (headingIn s .records + length (records s)) n room) (widgets-are s at k w left h none))

@@ -21,7 +21,7 @@ use Rattle.records.specs.declared.GridOptions.{GridOptions}
 use Rattle.records.specs.declared.Step.{Step}
 use Rattle.records.specs.declared.Step.the-variants.{Widget, Space, RowHeight, MaxWidth, MaxHeight, MinWidth, MinHeight, RowEnd}
 use Rattle.records.specs.declared.Record.{Record}
-use Rattle.records.specs.declared.Record.the-variants.{Heading, Grid, Step as Steps, Wrong}
+use Rattle.records.specs.declared.Record.the-variants.{Step as Steps, Wrong}
 use Rattle.records.specs.Parts.{letter, ends, lengthIn, isLength, lengthValue, isMaximum, maximumValue, countIn, isCount, countValue}
 
 abbrev pub pick : Bool → Record → Record → Record
@@ -68,10 +68,8 @@ layoutIn s = record {
 unfoldable pub rectIn : List ℕ → Rect
 rectIn s = record { left = pairIn s 6 .x; top = pairIn s 6 .y; right = pairIn s 8 .x; bottom = pairIn s 8 .y }
 
-unfoldable pub headingRecord : List ℕ → Record
-headingRecord s =
-    pick (layoutFits s && (pairFits s 6 && pairFits s 8) && pairFits s 10 && ends s 12)
-    (Heading (record { layout = layoutIn s; «max_rect» = rectIn s; spacing = pairIn s 10 })) Wrong
+unfoldable pub headingFits : List ℕ → Bool
+headingFits s = eqb (letter s) letters.H && (layoutFits s && (pairFits s 6 && pairFits s 8) && pairFits s 10 && ends s 12)
 
 -- ---- G: "minimum cell width and height, maximum width and height (blank: infinite), columns 1 to 32 (blank: not named), start row 0 to
 -- 127. No other field may be blank."
@@ -94,10 +92,8 @@ optionsIn s = record {
   «start_row» = countValue (countIn s 5 127);
 }
 
-unfoldable pub gridRecord : List ℕ → Record
-gridRecord s =
-    pick (pairFits s 0 && maximaFit s && isColumns (countIn s 4 32) && isCount (countIn s 5 127) (pos 0) && ends s 6)
-    (Grid (optionsIn s)) Wrong
+unfoldable pub gridFits : List ℕ → Bool
+gridFits s = pairFits s 0 && maximaFit s && isColumns (countIn s 4 32) && isCount (countIn s 5 127) (pos 0) && ends s 6
 
 -- ---- the steps
 unfoldable pub stepRecord : List ℕ → ℕ → Bool → Step → Record
@@ -123,14 +119,12 @@ singleRecord s b =
     (pick (eqb b letters.T) (single s (λ x. MinHeight x))
     Wrong)))))
 
--- the record at the front of a text: H, G, W, "E none", or a letter of one field
+-- the record at the front of a text, where a step may stand: W, E, or a letter of one field
 unfoldable pub recordOf : List ℕ → Record
 recordOf s =
-    pick (eqb (letter s) letters.H) (headingRecord s)
-    (pick (eqb (letter s) letters.G) (gridRecord s)
-    (pick (eqb (letter s) letters.W) (widgetRecord s)
+    pick (eqb (letter s) letters.W) (widgetRecord s)
     (pick (eqb (letter s) letters.E) (stepRecord s 0 true RowEnd)
-    (singleRecord s (letter s)))))
+    (singleRecord s (letter s)))
 
 unfoldable pub recordAt : List ℕ → ℕ → Record
 recordAt s at = recordOf (drop at s)

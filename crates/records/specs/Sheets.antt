@@ -1,17 +1,19 @@
 -- Document 01, "The sheet" and "Turned back", numbers 1 to 3: the checks over a whole sheet, before any record is laid out.
-use Prim.Native.Nat.{ℕ, zero, suc, _+_, _*_}
+use Prim.Native.Nat.{ℕ, zero, suc, _+_, _-_, _*_}
 use mathlib.Core.List.{List, [], _∷_}
 use mathlib.Core.Bool.{Bool, true, false}
-use lib.ListN.{length}
+use lib.ListN.{length, drop}
 use lib.Dec.{ltb, eqb}
 use Rattle.emath.specs.Numbers as number
+use Rattle.emath.specs.Refusals.{orElse}
 use Rattle.records.specs.declared.Step.{Step}
 use Rattle.records.specs.declared.Step.the-variants.{Widget, Space, RowHeight, MaxWidth, MaxHeight, MinWidth, MinHeight, RowEnd}
 use Rattle.records.specs.declared.Record.{Record}
-use Rattle.records.specs.declared.Record.the-variants.{Heading, Grid, Step as Steps, Wrong}
+use Rattle.records.specs.declared.Record.the-variants.{Step as Steps, Wrong}
 use Rattle.records.specs.declared.Checked.{Checked}
 use Rattle.records.specs.declared.Checked.the-variants.{Accepted, Refused}
 use Rattle.records.specs.Records.{recordOf, rest}
+use Rattle.records.specs.Headings.{headingIn, headingFault}
 
 -- ---- the text as records
 -- the first `left` records, or as many as there are
@@ -25,26 +27,29 @@ unfoldable pub after : ℕ → List ℕ → List ℕ
 after zero s = s
 after (suc left) s = after left (rest s)
 
--- "at most 512 records"
+-- "at most 512 records": those after the heading, and what follows them
+abbrev pub mostRecords : ℕ
+mostRecords = 512
+
+abbrev pub stepsLeft : List ℕ → ℕ
+stepsLeft s = mostRecords - headingIn s .records
+
 abbrev pub records : List ℕ → List Record
-records s = recordsFrom 512 s
+records s = recordsFrom (stepsLeft s) (drop (headingIn s .next) s)
+
+abbrev pub afterAll : List ℕ → List ℕ
+afterAll s = after (stepsLeft s) (drop (headingIn s .next) s)
 
 -- ---- 1
--- "Only H is first and only there; G, if present, is second": whether this may be record k, from 1
-unfoldable pub placed : ℕ → Record → Bool
-placed k (Heading h) = eqb k 1
-placed k (Grid g) = eqb k 2
-placed k (Steps st) = ltb 1 k
-placed k Wrong = false
+-- the first that is no step, the first of them being record k; 0 for none
+unfoldable pub wrongFrom : ℕ → List Record → ℕ
+wrongFrom k [] = 0
+wrongFrom k (Steps st ∷ rs) = wrongFrom (k + 1) rs
+wrongFrom k (Wrong ∷ rs) = k
 
--- the first that is malformed, misplaced or out of field range, the first of them being record k; 0 for none
-unfoldable pub misplaced : ℕ → List Record → ℕ
-misplaced k [] = 0
-misplaced k (r ∷ rs) = of (placed k r) (misplaced (k + 1) rs) k
-  where
-    of : Bool → ℕ → ℕ → ℕ
-    of true a b = a
-    of false a b = b
+-- the first record that is malformed, out of its place or out of its range
+unfoldable pub misplaced : List ℕ → ℕ
+misplaced s = orElse (headingFault s) (wrongFrom (headingIn s .records + 1) (records s))
 
 -- ---- 3
 -- 1 for a W
@@ -59,8 +64,6 @@ widgetStep (MinHeight x) = 0
 widgetStep RowEnd = 0
 
 unfoldable pub widget : Record → ℕ
-widget (Heading h) = 0
-widget (Grid g) = 0
 widget (Steps st) = widgetStep st
 widget Wrong = 0
 
@@ -85,8 +88,8 @@ sized k w room = pick (ltb room (8 * w)) (Refused number.noRoom 1) (Accepted k w
 -- 512th record, named 513". 3: "slice shorter than 8 per W", at record 1.
 unfoldable pub checked : List ℕ → ℕ → Checked
 checked s room =
-    pick (isEmpty s) (Refused number.malformed 1)
-    (pick (ltb 0 (misplaced 1 (records s))) (Refused number.malformed (misplaced 1 (records s)))
-    (pick (isEmpty (after 512 s))
-    (sized (length (records s)) (widgets (records s)) room)
-    (Refused number.tooLong 513)))
+    pick (eqb (misplaced s) 0)
+    (pick (isEmpty (afterAll s))
+    (sized (headingIn s .records + length (records s)) (widgets (records s)) room)
+    (Refused number.tooLong (mostRecords + 1)))
+    (Refused number.malformed (misplaced s))

@@ -1,8 +1,7 @@
 // G: minimum cell width and height, maximum width and height, columns, start row.
 use crate::GridOptions;
-use crate::Record;
-use crate::headings::pair_fits;
-use crate::headings::pair_in;
+use crate::layouts::pair_fits;
+use crate::layouts::pair_in;
 use crate::parts::count;
 use crate::parts::count_value;
 use crate::parts::ends;
@@ -13,7 +12,7 @@ use crate::parts::maximum_value;
 use emath::Vec2;
 use text::Field;
 ghost use mathlib.Core.Path.{_≡_};
-ghost use Rattle.records.specs.Records.{isColumns, maximaFit, maximaIn, optionsIn, gridRecord};
+ghost use Rattle.records.specs.Records.{isColumns, maximaFit, maximaIn, optionsIn, gridFits};
 
 // 1 to 32, or blank.
 fn is_columns(f: Field) -> bool
@@ -42,7 +41,7 @@ fn maxima_in(text: &[u8]) -> Vec2
     }
 }
 
-fn options_in(text: &[u8]) -> GridOptions
+pub fn options_in(text: &[u8]) -> GridOptions
     ensures { λ r. ⌜ r ≡ optionsIn (now (text .entry)) ⌝ }
 {
     GridOptions {
@@ -53,13 +52,10 @@ fn options_in(text: &[u8]) -> GridOptions
     }
 }
 
-pub fn grid(text: &[u8]) -> Record
-    ensures { λ r. ⌜ r ≡ gridRecord (now (text .entry)) ⌝ }
+pub fn grid_fits(text: &[u8]) -> bool
+    ensures { λ r. ⌜ r ≡ gridFits (now (text .entry)) ⌝ }
 {
     let columns = is_columns(count(text, 4, 32));
     let start_row = is_count(count(text, 5, 127), 0);
-    if pair_fits(text, 0) & maxima_fit(text) & columns & start_row & ends(text, 6) {
-        return Record::Grid(options_in(text));
-    }
-    Record::Wrong
+    pair_fits(text, 0) & maxima_fit(text) & columns & start_row & ends(text, 6)
 }

@@ -1,117 +1,102 @@
-// H: six layout fields, max_rect's four edges, spacing across and down.
+// What comes before the first step: H, and G where its letter stands after it.
+use crate::GridOptions;
 use crate::Heading;
-use crate::Record;
-use crate::parts::count;
-use crate::parts::count_value;
-use crate::parts::ends;
-use crate::parts::is_count;
-use crate::parts::is_length;
-use crate::parts::length;
-use crate::parts::length_value;
-use emath::Align;
-use emath::Rect;
+use crate::grids::grid_fits;
+use crate::grids::options_in;
+use crate::layouts::heading_fits;
+use crate::layouts::layout_in;
+use crate::layouts::pair_in;
+use crate::layouts::rect_in;
+use crate::parts::byte;
+use crate::records::next_record;
 use emath::Vec2;
-use layout::Direction;
-use layout::Layout;
 ghost use mathlib.Core.Path.{_≡_};
-ghost use Prim.Native.Nat.{_<_};
-ghost use Rattle.records.specs.Records.{directionOf, alignOf, layoutFits, layoutIn, rectIn, pairFits, pairIn, headingRecord};
+ghost use mathlib.Core.Bool.{true, cond};
+ghost use Prim.Native.Nat.{_≤_};
+ghost use Rattle.records.specs.Records.{optionsIn, gridFits, rest, nextAt};
+ghost use Rattle.records.specs.Headings.{hasGrid, noOptions, headingIn, headingFault};
 
-// 0 LeftToRight, 1 RightToLeft, 2 TopDown, 3 BottomUp.
-fn direction_of(n: usize) -> Direction
-    ensures { λ r. ⌜ r ≡ directionOf n ⌝ }
+pub fn has_grid(text: &[u8]) -> bool
+    ensures { λ b. ⌜ b ≡ hasGrid (now (text .entry)) ⌝ }
 {
-    match n {
-        0 => Direction::LeftToRight,
-        1 => Direction::RightToLeft,
-        2 => Direction::TopDown,
-        _ => Direction::BottomUp,
+    byte(text, next_record(text, 0)) == b'G'
+}
+
+fn no_options() -> GridOptions
+    ensures { λ g. ⌜ g ≡ noOptions ⌝ }
+{
+    let none = Vec2 { x: 0.0, y: 0.0 };
+    GridOptions {
+        min_cell_size: none,
+        max_cell_size: none,
+        num_columns: 0,
+        start_row: 0,
     }
 }
 
-fn align_of(n: usize) -> Align
-    ensures { λ r. ⌜ r ≡ alignOf n ⌝ }
+fn options(text: &[u8], grid: bool) -> GridOptions
+    ensures { λ g. ⌜ g ≡ cond grid (optionsIn (rest (now (text .entry)))) noOptions ⌝ }
 {
-    match n {
-        0 => Align::Min,
-        1 => Align::Center,
-        _ => Align::Max,
+    if grid {
+        let at = next_record(text, 0);
+        let n = text.len();
+        return options_in(&text[at..n]);
+    }
+    no_options()
+}
+
+fn next(text: &[u8], grid: bool) -> usize
+    ensures { λ r. ⌜ r ≡ cond grid (nextAt (now (text .entry)) (nextAt (now (text .entry)) 0)) (nextAt (now (text .entry)) 0) ⌝ }
+{
+    let at = next_record(text, 0);
+    if grid {
+        return next_record(text, at);
+    }
+    at
+}
+
+fn records_in(grid: bool) -> usize
+    ensures { λ r. ⌜ (r ≡ cond grid 2 1) × (r ≤ 2) ⌝ }
+{
+    if grid { 2 } else { 1 }
+}
+
+pub fn read_heading(text: &[u8]) -> Heading
+    ensures { λ h. ⌜ (h ≡ headingIn (now (text .entry))) × (h .records ≤ 2) ⌝ }
+{
+    let grid = has_grid(text);
+    Heading {
+        layout: layout_in(text),
+        max_rect: rect_in(text),
+        spacing: pair_in(text, 10),
+        has_grid: grid,
+        options: options(text, grid),
+        records: records_in(grid),
+        next: next(text, grid),
     }
 }
 
-fn layout_fits(text: &[u8]) -> bool
-    ensures { λ r. ⌜ r ≡ layoutFits (now (text .entry)) ⌝ }
+// Whether G, if there is one, is as it should be.
+fn options_fit(text: &[u8]) -> bool
+    ensures { λ b. ⌜ b ≡ cond (hasGrid (now (text .entry))) (gridFits (rest (now (text .entry)))) true ⌝ }
 {
-    let direction = is_count(count(text, 0, 3), 0);
-    let wrap = is_count(count(text, 1, 1), 0);
-    let main_align = is_count(count(text, 2, 2), 0);
-    let main_justify = is_count(count(text, 3, 1), 0);
-    let cross_align = is_count(count(text, 4, 2), 0);
-    let cross_justify = is_count(count(text, 5, 1), 0);
-    direction & wrap & main_align & main_justify & cross_align & cross_justify
-}
-
-fn layout_in(text: &[u8]) -> Layout
-    ensures { λ r. ⌜ r ≡ layoutIn (now (text .entry)) ⌝ }
-{
-    let direction = count_value(count(text, 0, 3));
-    let wrap = count_value(count(text, 1, 1));
-    let main_align = count_value(count(text, 2, 2));
-    let main_justify = count_value(count(text, 3, 1));
-    let cross_align = count_value(count(text, 4, 2));
-    let cross_justify = count_value(count(text, 5, 1));
-    Layout {
-        main_dir: direction_of(direction),
-        main_wrap: wrap == 1,
-        main_align: align_of(main_align),
-        main_justify: main_justify == 1,
-        cross_align: align_of(cross_align),
-        cross_justify: cross_justify == 1,
+    if has_grid(text) {
+        let at = next_record(text, 0);
+        let n = text.len();
+        return grid_fits(&text[at..n]);
     }
+    true
 }
 
-// Fields i and i + 1.
-pub fn pair_fits(text: &[u8], i: usize) -> bool
-    requires { ⌜ i < 11 ⌝ }
-    ensures { λ r. ⌜ r ≡ pairFits (now (text .entry)) i ⌝ }
+// The first of its records that is not as it should be, 0 for none.
+pub fn heading_fault(text: &[u8]) -> usize
+    ensures { λ r. ⌜ r ≡ headingFault (now (text .entry)) ⌝ }
 {
-    is_length(length(text, i)) & is_length(length(text, i + 1))
-}
-
-pub fn pair_in(text: &[u8], i: usize) -> Vec2
-    requires { ⌜ i < 11 ⌝ }
-    ensures { λ r. ⌜ r ≡ pairIn (now (text .entry)) i ⌝ }
-{
-    Vec2 {
-        x: length_value(length(text, i)),
-        y: length_value(length(text, i + 1)),
+    if !heading_fits(text) {
+        return 1;
     }
-}
-
-// Fields 6 to 9.
-fn rect_in(text: &[u8]) -> Rect
-    ensures { λ r. ⌜ r ≡ rectIn (now (text .entry)) ⌝ }
-{
-    let min = pair_in(text, 6);
-    let max = pair_in(text, 8);
-    Rect {
-        left: min.x,
-        top: min.y,
-        right: max.x,
-        bottom: max.y,
+    if !options_fit(text) {
+        return 2;
     }
-}
-
-pub fn heading(text: &[u8]) -> Record
-    ensures { λ r. ⌜ r ≡ headingRecord (now (text .entry)) ⌝ }
-{
-    let edges = pair_fits(text, 6) & pair_fits(text, 8);
-    if layout_fits(text) & edges & pair_fits(text, 10) & ends(text, 12) {
-        return Record::Heading(Heading {
-            layout: layout_in(text),
-            max_rect: rect_in(text),
-            spacing: pair_in(text, 10),
-        });
-    }
-    Record::Wrong
+    0
 }

@@ -4,7 +4,7 @@ use crate::Step;
 use crate::parts::byte;
 use crate::records::read_record;
 ghost use mathlib.Core.Path.{_≡_};
-ghost use Prim.Native.Nat.{_+_, _≤_, _<_};
+ghost use Prim.Native.Nat.{_+_, _≤_};
 ghost use lib.ListN.{length, drop};
 ghost use Rattle.records.specs.Records.{recordAt};
 ghost use Rattle.records.specs.Implementation.Keeping.{storedStep, stored, Says};
@@ -37,8 +37,6 @@ pub fn store(sizes: &mut [f32], n: usize, r: Record)
     ensures { λ _. ⌜ now (sizes .exit) ≡ stored (now (sizes .entry)) n r ⌝ }
 {
     match r {
-        Record::Heading(_) => {}
-        Record::Grid(_) => {}
         Record::Step(st) => store_step(sizes, n, st),
         Record::Wrong => {}
     }

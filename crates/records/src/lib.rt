@@ -4,8 +4,9 @@ use emath::Vec2;
 use layout::Layout;
 
 mod grids;
-mod headings;
+pub mod headings;
 pub mod kept;
+mod layouts;
 mod parts;
 pub mod records;
 pub mod sheets;
@@ -18,13 +19,6 @@ pub const MAX_RECORDS: usize = 512;
 // Two places for each record, from record 1 on; place 0 and place 513 stay free.
 pub const KEPT: usize = 1026;
 
-// H.
-pub struct Heading {
-    pub layout: Layout,
-    pub max_rect: Rect,
-    pub spacing: Vec2,
-}
-
 // G.
 pub struct GridOptions {
     pub min_cell_size: Vec2,
@@ -33,6 +27,19 @@ pub struct GridOptions {
     // 0: not named.
     pub num_columns: usize,
     pub start_row: usize,
+}
+
+// What comes before the first step: H, and G where there is one.
+pub struct Heading {
+    pub layout: Layout,
+    pub max_rect: Rect,
+    pub spacing: Vec2,
+    pub has_grid: bool,
+    // All zero without a G.
+    pub options: GridOptions,
+    // How many records that is, and where the next one begins.
+    pub records: usize,
+    pub next: usize,
 }
 
 // Lengths are in points.
@@ -47,9 +54,8 @@ pub enum Step {
     RowEnd,
 }
 
+// What stands where a step may stand.
 pub enum Record {
-    Heading(Heading),
-    Grid(GridOptions),
     Step(Step),
     Wrong,
 }

@@ -1,8 +1,6 @@
 // One record: its letter chooses what it is.
 use crate::Record;
 use crate::Step;
-use crate::grids::grid;
-use crate::headings::heading;
 use crate::parts::byte;
 use crate::parts::ends;
 use crate::parts::is_length;
@@ -61,8 +59,6 @@ pub fn first_record(text: &[u8]) -> Record
 {
     let letter = byte(text, 0);
     match letter {
-        b'H' => heading(text),
-        b'G' => grid(text),
         b'W' => widget(text),
         b'E' => step_record(text, 0, true, Step::RowEnd),
         _ => single(text, letter),

@@ -4,6 +4,8 @@ use crate::KEPT;
 use crate::MAX_RECORDS;
 use crate::Record;
 use crate::Step;
+use crate::headings::heading_fault;
+use crate::headings::read_heading;
 use crate::kept::store;
 use crate::records::next_record;
 use crate::records::read_record;
@@ -13,18 +15,15 @@ use emath::numbers::TOO_LONG;
 ghost use mathlib.Core.Path.{_≡_};
 ghost use Prim.Native.Nat.{ℕ, _≤_};
 ghost use lib.ListN.{length};
-ghost use Rattle.records.specs.Sheets.{placed as placedAt, widgetStep, widget as widgetOf, checked, sized};
+ghost use Rattle.records.specs.Sheets.{widgetStep, widget as widgetOf, checked, sized};
 ghost use Rattle.records.specs.declared.Checked.the-variants.{Accepted};
-ghost use Rattle.records.specs.Implementation.Keeping.{Kept};
+ghost use Rattle.records.specs.Implementation.Keeping.{isStep, KeptIn};
 
-// Whether this may be record k, from 1.
-fn placed(k: usize, r: Record) -> bool
-    ensures { λ b. ⌜ b ≡ placedAt k r ⌝ }
+fn is_step(r: Record) -> bool
+    ensures { λ b. ⌜ b ≡ isStep r ⌝ }
 {
     match r {
-        Record::Heading(_) => k == 1,
-        Record::Grid(_) => k == 2,
-        Record::Step(_) => 1 < k,
+        Record::Step(_) => true,
         Record::Wrong => false,
     }
 }
@@ -48,8 +47,6 @@ fn widget(r: Record) -> usize
     ensures { λ n. ⌜ (n ≡ widgetOf r) × (n ≤ 1) ⌝ }
 {
     match r {
-        Record::Heading(_) => 0,
-        Record::Grid(_) => 0,
         Record::Step(st) => widget_step(st),
         Record::Wrong => 0,
     }
@@ -69,22 +66,24 @@ fn ended(k: usize, w: usize, room: usize) -> Checked
 // What of 1 to 3 applies to the sheet, with a slice of so many places; or how many records and W it has, and then what each W says is kept.
 pub fn check_keeping(text: &[u8], room: usize, sizes: &mut [f32]) -> Checked
     requires { ⌜ length (now sizes) ≡ 1026 ⌝ }
-    ensures { λ r. ⌜ (r ≡ checked (now (text .entry)) room) × ((k w : ℕ) → r ≡ Accepted k w → Kept 512 (now (text .entry)) (now (sizes .exit)) 1) ⌝ }
+    ensures { λ r. ⌜ (r ≡ checked (now (text .entry)) room) × ((k w : ℕ) → r ≡ Accepted k w → KeptIn (now (text .entry)) (now (sizes .exit))) ⌝ }
 {
-    let n = text.len();
-    if n == 0 {
-        return Checked::Refused(MALFORMED, 1);
+    let fault = heading_fault(text);
+    if fault != 0 {
+        return Checked::Refused(MALFORMED, fault);
     }
-    let mut at: usize = 0;
-    let mut k: usize = 0;
+    let h = read_heading(text);
+    let n = text.len();
+    let mut at = h.next;
+    let mut k = h.records;
     let mut w: usize = 0;
-    let mut left: usize = MAX_RECORDS;
+    let mut left: usize = MAX_RECORDS - k;
     while 0 < left {
         if n <= at {
             return ended(k, w, room);
         }
         let r = read_record(text, at);
-        if placed(k + 1, r) {
+        if is_step(r) {
             store(sizes, k + 1, r);
             w += widget(r);
             at = next_record(text, at);
@@ -95,7 +94,7 @@ pub fn check_keeping(text: &[u8], room: usize, sizes: &mut [f32]) -> Checked
         }
     }
     if at < n {
-        return Checked::Refused(TOO_LONG, 513);
+        return Checked::Refused(TOO_LONG, MAX_RECORDS + 1);
     }
     ended(k, w, room)
 }

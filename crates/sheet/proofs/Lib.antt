@@ -7,6 +7,7 @@ pub mod PlacedCells
 pub mod Stepping
 pub mod Slices
 pub mod Ticking
+pub mod Walks
 pub mod Walking
 pub mod WalkedRuns
 pub mod WalkedPasses

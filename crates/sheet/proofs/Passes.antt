@@ -1,6 +1,6 @@
 -- An accepted pass: H is accepted, so is G where there is one, so is every record after them; and what the pass gives is what the last
 -- placer holds. Assumes nothing.
-use Prim.Native.Nat.{ℕ, zero, suc, _<_}
+use Prim.Native.Nat.{ℕ, zero, suc, _+_, _<_}
 use mathlib.Core.Path.{_≡_, refl, ap, sym, _∙_, subst}
 use mathlib.Core.Bool.{Bool, true, false, cond}
 use native.Mathlib.Omega.{arith}
@@ -20,7 +20,6 @@ use Rattle.placer.specs.Operations.{checkedNew, checkedSetGrid}
 use Rattle.placer.proofs.Accepted.{changed-accepted}
 use Rattle.placer.specs.declared.Placer.{Placer}
 use Rattle.records.specs.declared.Heading.{Heading}
-use Rattle.records.specs.declared.GridOptions.{GridOptions}
 use Rattle.sheet.specs.Pass.{Sheet, Ran, Outcome, called, followed, runFrom, headed, gridOf, gridded, plateOf, remembered, refusedAt, outcomeOf, begun, ranWith, pass}
 use Rattle.sheet.proofs.Runs.{some, going}
 
@@ -28,7 +27,7 @@ use Rattle.sheet.proofs.Runs.{some, going}
 pub record Given (grid : Bool) (m : Memory) (r : Ran) (o : Outcome) : Type 0 where
   pub run : r .number ≡ 0
   pub cells : o .cells ≡ r .cells
-  pub plate : o .plate ≡ plateOf (r .placer)
+  pub plate : o .plate ≡ plateOf r
   pub memory : o .memory ≡ remembered grid m (r .placer) .memory
   pub save : o .save ≡ remembered grid m (r .placer) .save
 
@@ -39,7 +38,7 @@ given grid m r h = go (r .number) refl
     whole : Bool → Outcome
     whole b =
         cond b
-        (record { number = 0; at = 0; cells = r .cells; plate = plateOf (r .placer); memory = remembered grid m (r .placer) .memory; save = remembered grid m (r .placer) .save })
+        (record { number = 0; at = 0; cells = r .cells; plate = plateOf r; memory = remembered grid m (r .placer) .memory; save = remembered grid m (r .placer) .save })
         (refusedAt (r .number) (r .at) (r .cells) m)
 
     go : (n : ℕ) → r .number ≡ n → Given grid m r (whole (eqb (r .number) 0))
@@ -58,9 +57,13 @@ unfolding outcomeOf
 outcome-ends grid m r = go (eqb (r .number) 0) refl
   where
     go : (b : Bool) → eqb (r .number) 0 ≡ b
-        → Ended (cond b (record { number = 0; at = 0; cells = r .cells; plate = plateOf (r .placer); memory = remembered grid m (r .placer) .memory; save = remembered grid m (r .placer) .save }) (refusedAt (r .number) (r .at) (r .cells) m))
+        → Ended (cond b (record { number = 0; at = 0; cells = r .cells; plate = plateOf r; memory = remembered grid m (r .placer) .memory; save = remembered grid m (r .placer) .save }) (refusedAt (r .number) (r .at) (r .cells) m))
     go true e = well refl refl
     go false e = badly (omega (arith, eqb-false (r .number) 0 e)) refl
+
+same-plate : (r t : Ran) → r .placer ≡ t .placer → plateOf r ≡ plateOf t
+unfolding plateOf
+same-plate r t e = ap (λ (p : Placer). p .region .«min_rect») e
 
 -- ---- H
 pub headed-is : (k : ℕ) (h : Heading) → headed k h .number ≡ 0
@@ -73,20 +76,20 @@ grid-accepted : (n : ℕ) (a b : GridLayout) → gridAnswer n a b .number ≡ 0 
 unfolding gridAnswer
 grid-accepted n a b h = rw h
 
-module _ (h : Heading) (o : GridOptions) (known : Bool) (m : Memory) (sizing : Bool) (p : Placer) where
+module _ (h : Heading) (known : Bool) (m : Memory) (sizing : Bool) (p : Placer) where
   abbrev pub newOne : GridLayout
-  newOne = newGrid (p .region) known m sizing (h .spacing) (o .«min_cell_size») (o .«max_cell_size») (o .«num_columns») (o .«start_row»)
+  newOne = newGrid (p .region) known m sizing (h .spacing) (h .options .«min_cell_size») (h .options .«max_cell_size») (h .options .«num_columns») (h .options .«start_row»)
 
-  grid-of : gridOf h o known m sizing p .number ≡ 0 → gridOf h o known m sizing p .grid ≡ newOne
+  grid-of : gridOf h known m sizing p .number ≡ 0 → gridOf h known m sizing p .grid ≡ newOne
   unfolding gridOf checkedNewGrid
   grid-of e = grid-accepted _ _ _ e
 
-  pub gridded-is : gridded h o known m sizing p .number ≡ 0 → (gridded h o known m sizing p .placer ≡ setGrid p newOne) × (placerFault (setGrid p newOne) ≡ 0)
+  pub gridded-is : gridded h known m sizing p .number ≡ 0 → (gridded h known m sizing p .placer ≡ setGrid p newOne) × (placerFault (setGrid p newOne) ≡ 0)
   unfolding gridded checkedSetGrid
   gridded-is e =
-      let a = or-none (gridOf h o known m sizing p .number) _ e in
+      let a = or-none (gridOf h known m sizing p .number) _ e in
       let g = grid-of (a .0) in
-      let c = changed-accepted _ p (setGrid p (gridOf h o known m sizing p .grid)) (a .1) in
+      let c = changed-accepted _ p (setGrid p (gridOf h known m sizing p .grid)) (a .1) in
       (c .2 ∙ ap (λ (x : GridLayout). setGrid p x) g, ap (λ (x : GridLayout). placerFault (setGrid p x)) (sym g) ∙ c .1)
 
 -- ---- a pass of a grid sheet
@@ -96,39 +99,39 @@ module _ (k : ℕ) (s : Sheet) (known : Bool) (m : Memory) (sizing : Bool) where
   start = newPlacer k (s .heading .«max_rect») (s .heading .layout)
 
   abbrev pub gridStart : Placer
-  gridStart = setGrid start (newOne (s .heading) (s .options) known m sizing start)
+  gridStart = setGrid start (newOne (s .heading) known m sizing start)
 
   pub record GridPass : Type 0 where
     pub rect : rectFault (s .heading .«max_rect») ≡ 0
     pub begin : placerFault start ≡ 0
-    pub is : gridded (s .heading) (s .options) known m sizing (headed k (s .heading) .placer) .placer ≡ gridStart
+    pub is : gridded (s .heading) known m sizing (headed k (s .heading) .placer) .placer ≡ gridStart
     pub fault : placerFault gridStart ≡ 0
-    pub run : runFrom k (s .heading .spacing) 3 gridStart (s .steps) .number ≡ 0
-    pub cells : pass k s known m sizing .cells ≡ runFrom k (s .heading .spacing) 3 gridStart (s .steps) .cells
-    pub plate : pass k s known m sizing .plate ≡ plateOf (runFrom k (s .heading .spacing) 3 gridStart (s .steps) .placer)
-    pub memory : pass k s known m sizing .memory ≡ saveGrid (runFrom k (s .heading .spacing) 3 gridStart (s .steps) .placer) .memory
+    pub run : runFrom k (s .heading .spacing) (s .heading .records + 1) gridStart (s .steps) .number ≡ 0
+    pub cells : pass k s known m sizing .cells ≡ runFrom k (s .heading .spacing) (s .heading .records + 1) gridStart (s .steps) .cells
+    pub plate : pass k s known m sizing .plate ≡ plateOf (runFrom k (s .heading .spacing) (s .heading .records + 1) gridStart (s .steps))
+    pub memory : pass k s known m sizing .memory ≡ saveGrid (runFrom k (s .heading .spacing) (s .heading .records + 1) gridStart (s .steps) .placer) .memory
 
   abbrev last : Placer → Ran
-  last p = runFrom k (s .heading .spacing) 3 p (s .steps)
+  last p = runFrom k (s .heading .spacing) (s .heading .records + 1) p (s .steps)
 
-  with-grid : s .«has_grid» ≡ true → (p : Placer)
-      → ranWith k s known m sizing p ≡ followed 2 (called (gridded (s .heading) (s .options) known m sizing p)) (last (gridded (s .heading) (s .options) known m sizing p .placer))
+  with-grid : s .heading .«has_grid» ≡ true → (p : Placer)
+      → ranWith k s known m sizing p ≡ followed (s .heading .records) (called (gridded (s .heading) known m sizing p)) (last (gridded (s .heading) known m sizing p .placer))
   unfolding ranWith begun
   with-grid g p = rw g
 
   -- the records from G on, after a placer p
   record FromGrid (p : Placer) (r : Ran) : Type 0 where
-    pub is : gridded (s .heading) (s .options) known m sizing p .placer ≡ setGrid p (newOne (s .heading) (s .options) known m sizing p)
-    pub fault : placerFault (setGrid p (newOne (s .heading) (s .options) known m sizing p)) ≡ 0
-    pub run : last (setGrid p (newOne (s .heading) (s .options) known m sizing p)) .number ≡ 0
-    pub cells : r .cells ≡ last (setGrid p (newOne (s .heading) (s .options) known m sizing p)) .cells
-    pub placer : r .placer ≡ last (setGrid p (newOne (s .heading) (s .options) known m sizing p)) .placer
+    pub is : gridded (s .heading) known m sizing p .placer ≡ setGrid p (newOne (s .heading) known m sizing p)
+    pub fault : placerFault (setGrid p (newOne (s .heading) known m sizing p)) ≡ 0
+    pub run : last (setGrid p (newOne (s .heading) known m sizing p)) .number ≡ 0
+    pub cells : r .cells ≡ last (setGrid p (newOne (s .heading) known m sizing p)) .cells
+    pub placer : r .placer ≡ last (setGrid p (newOne (s .heading) known m sizing p)) .placer
 
-  from-grid : s .«has_grid» ≡ true → (p : Placer) → ranWith k s known m sizing p .number ≡ 0 → FromGrid p (ranWith k s known m sizing p)
+  from-grid : s .heading .«has_grid» ≡ true → (p : Placer) → ranWith k s known m sizing p .number ≡ 0 → FromGrid p (ranWith k s known m sizing p)
   from-grid g p h =
       let e = with-grid g p in
-      let a = going 2 (called (gridded (s .heading) (s .options) known m sizing p)) (last (gridded (s .heading) (s .options) known m sizing p .placer)) (ap (λ (r : Ran). r .number) (sym e) ∙ h) in
-      let b = gridded-is (s .heading) (s .options) known m sizing p (a .this) in
+      let a = going (s .heading .records) (called (gridded (s .heading) known m sizing p)) (last (gridded (s .heading) known m sizing p .placer)) (ap (λ (r : Ran). r .number) (sym e) ∙ h) in
+      let b = gridded-is (s .heading) known m sizing p (a .this) in
       record {
         is = b .0;
         fault = b .1;
@@ -163,15 +166,15 @@ module _ (k : ℕ) (s : Sheet) (known : Bool) (m : Memory) (sizing : Bool) where
         placer = a .placer ∙ ap (λ (q : Placer). ranWith k s known m sizing q .placer) (b .2);
       }
 
-  pass-given : pass k s known m sizing .number ≡ 0 → Given (s .«has_grid») m whole (pass k s known m sizing)
+  pass-given : pass k s known m sizing .number ≡ 0 → Given (s .heading .«has_grid») m whole (pass k s known m sizing)
   unfolding pass
-  pass-given h = given (s .«has_grid») m whole h
+  pass-given h = given (s .heading .«has_grid») m whole h
 
   saved : (g : Bool) (p : Placer) → g ≡ true → remembered g m p .memory ≡ saveGrid p .memory
   unfolding remembered
   saved g p e = rw e
 
-  pub grid-pass : s .«has_grid» ≡ true → pass k s known m sizing .number ≡ 0 → GridPass
+  pub grid-pass : s .heading .«has_grid» ≡ true → pass k s known m sizing .number ≡ 0 → GridPass
   grid-pass g h =
       let a = pass-given h in
       let b = from-head (a .run) in
@@ -180,27 +183,27 @@ module _ (k : ℕ) (s : Sheet) (known : Bool) (m : Memory) (sizing : Bool) where
       record {
         rect = b .rect;
         begin = b .begin;
-        is = ap (λ (q : Placer). gridded (s .heading) (s .options) known m sizing q .placer) (b .placed) ∙ c .is;
+        is = ap (λ (q : Placer). gridded (s .heading) known m sizing q .placer) (b .placed) ∙ c .is;
         fault = c .fault;
         run = c .run;
         cells = a .cells ∙ b .cells ∙ c .cells;
-        plate = a .plate ∙ ap (λ (x : Placer). plateOf x) q;
-        memory = a .memory ∙ saved (s .«has_grid») (whole .placer) g ∙ ap (λ (x : Placer). saveGrid x .memory) q;
+        plate = a .plate ∙ same-plate _ _ q;
+        memory = a .memory ∙ saved (s .heading .«has_grid») (whole .placer) g ∙ ap (λ (x : Placer). saveGrid x .memory) q;
       }
 
   -- a pass of a sheet without a grid
   pub record PlainPass : Type 0 where
     pub rect : rectFault (s .heading .«max_rect») ≡ 0
     pub begin : placerFault start ≡ 0
-    pub run : runFrom k (s .heading .spacing) 2 start (s .steps) .number ≡ 0
-    pub cells : pass k s known m sizing .cells ≡ runFrom k (s .heading .spacing) 2 start (s .steps) .cells
-    pub plate : pass k s known m sizing .plate ≡ plateOf (runFrom k (s .heading .spacing) 2 start (s .steps) .placer)
+    pub run : runFrom k (s .heading .spacing) (s .heading .records + 1) start (s .steps) .number ≡ 0
+    pub cells : pass k s known m sizing .cells ≡ runFrom k (s .heading .spacing) (s .heading .records + 1) start (s .steps) .cells
+    pub plate : pass k s known m sizing .plate ≡ plateOf (runFrom k (s .heading .spacing) (s .heading .records + 1) start (s .steps))
 
-  without-grid : s .«has_grid» ≡ false → (p : Placer) → ranWith k s known m sizing p ≡ runFrom k (s .heading .spacing) 2 p (s .steps)
+  without-grid : s .heading .«has_grid» ≡ false → (p : Placer) → ranWith k s known m sizing p ≡ runFrom k (s .heading .spacing) (s .heading .records + 1) p (s .steps)
   unfolding ranWith
   without-grid g p = rw g
 
-  pub plain-pass : s .«has_grid» ≡ false → pass k s known m sizing .number ≡ 0 → PlainPass
+  pub plain-pass : s .heading .«has_grid» ≡ false → pass k s known m sizing .number ≡ 0 → PlainPass
   plain-pass g h =
       let a = pass-given h in
       let b = from-head (a .run) in
@@ -210,5 +213,5 @@ module _ (k : ℕ) (s : Sheet) (known : Bool) (m : Memory) (sizing : Bool) where
         begin = b .begin;
         run = ap (λ (r : Ran). r .number) (sym e) ∙ b .run;
         cells = a .cells ∙ b .cells ∙ ap (λ (r : Ran). r .cells) e;
-        plate = a .plate ∙ ap (λ (x : Placer). plateOf x) (b .placer ∙ ap (λ (r : Ran). r .placer) e);
+        plate = a .plate ∙ same-plate _ _ (b .placer ∙ ap (λ (r : Ran). r .placer) e);
       }

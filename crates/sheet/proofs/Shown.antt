@@ -9,10 +9,12 @@ use borrow.Author.Tests.{eqb-true}
 use lib.IntN.{ℤ}
 use lib.ListN.{length, drop, length-append}
 use Rattle.emath.specs.Steps.{tick}
+use Rattle.emath.specs.Numbers as number
 use Rattle.emath.specs.declared.Vec2.{Vec2}
 use Rattle.grid.specs.declared.Memory.{Memory}
 use Rattle.placer.specs.declared.Placer.{Placer}
-use Rattle.records.specs.Sheets.{records, after, misplaced, widgets, isEmpty, pick, sized, checked}
+use Rattle.records.specs.Headings.{headingIn}
+use Rattle.records.specs.Sheets.{records, afterAll, misplaced, widgets, isEmpty, pick, sized, checked}
 use Rattle.records.specs.declared.Checked.{Checked}
 use Rattle.records.specs.declared.Checked.the-variants as checked-of
 use Rattle.records.specs.declared.Step.{Step}
@@ -37,24 +39,24 @@ run-all k sp n p (st ∷ rest) h =
 
 ran-all : (k : ℕ) (s : Sheet) (known : Bool) (m : Memory) (sizing : Bool) (p : Placer) → ranWith k s known m sizing p .number ≡ 0 → controls (s .steps) ≤ length (ranWith k s known m sizing p .cells)
 unfolding ranWith begun
-ran-all k s known m sizing p h = go (s .«has_grid») h
+ran-all k s known m sizing p h = go (s .heading .«has_grid») h
   where
     later : Ran
-    later = runFrom k (s .heading .spacing) 3 (gridded (s .heading) (s .options) known m sizing p .placer) (s .steps)
+    later = runFrom k (s .heading .spacing) (s .heading .records + 1) (gridded (s .heading) known m sizing p .placer) (s .steps)
 
-    go : (b : Bool) → cond b (followed 2 (called (gridded (s .heading) (s .options) known m sizing p)) later) (runFrom k (s .heading .spacing) 2 p (s .steps)) .number ≡ 0
-        → controls (s .steps) ≤ length (cond b (followed 2 (called (gridded (s .heading) (s .options) known m sizing p)) later) (runFrom k (s .heading .spacing) 2 p (s .steps)) .cells)
+    go : (b : Bool) → cond b (followed (s .heading .records) (called (gridded (s .heading) known m sizing p)) later) (runFrom k (s .heading .spacing) (s .heading .records + 1) p (s .steps)) .number ≡ 0
+        → controls (s .steps) ≤ length (cond b (followed (s .heading .records) (called (gridded (s .heading) known m sizing p)) later) (runFrom k (s .heading .spacing) (s .heading .records + 1) p (s .steps)) .cells)
     go true h =
-        let g = going 2 (called (gridded (s .heading) (s .options) known m sizing p)) later h in
-        let r = run-all k (s .heading .spacing) 3 (gridded (s .heading) (s .options) known m sizing p .placer) (s .steps) (g .rest) in
+        let g = going (s .heading .records) (called (gridded (s .heading) known m sizing p)) later h in
+        let r = run-all k (s .heading .spacing) (s .heading .records + 1) (gridded (s .heading) known m sizing p .placer) (s .steps) (g .rest) in
         omega (arith, r, ap (λ (cs : List Cell). length cs) (g .cells))
-    go false h = run-all k (s .heading .spacing) 2 p (s .steps) h
+    go false h = run-all k (s .heading .spacing) (s .heading .records + 1) p (s .steps) h
 
 pub pass-all : (k : ℕ) (s : Sheet) (known : Bool) (m : Memory) (sizing : Bool) → pass k s known m sizing .number ≡ 0 → controls (s .steps) ≤ length (pass k s known m sizing .cells)
 unfolding pass begun
 pass-all k s known m sizing h =
     let later = ranWith k s known m sizing (headed k (s .heading) .placer) in
-    let o = given (s .«has_grid») m (followed 1 (called (headed k (s .heading))) later) h in
+    let o = given (s .heading .«has_grid») m (followed 1 (called (headed k (s .heading))) later) h in
     let g = going 1 (called (headed k (s .heading))) later (o .run) in
     let r = ran-all k s known m sizing (headed k (s .heading) .placer) (g .rest) in
     omega (arith, r, ap (λ (cs : List Cell). length cs) (o .cells), ap (λ (cs : List Cell). length cs) (g .cells))
@@ -77,16 +79,15 @@ no-number n at h = go (eqb n 0) refl h
 
 pub some-number : (s : List ℕ) (room n at : ℕ) → checked s room ≡ checked-of.Refused n at → 0 < n
 unfolding checked sized
-some-number s room n at h = go (isEmpty s) (ltb 0 (misplaced 1 (records s))) (isEmpty (after 512 s)) (ltb room (8 * widgets (records s))) h
+some-number s room n at h = go (eqb (misplaced s) 0) (isEmpty (afterAll s)) (ltb room (8 * widgets (records s))) h
   where
-    go : (a b c d : Bool)
-        → pick a (checked-of.Refused 1 1) (pick b (checked-of.Refused 1 (misplaced 1 (records s))) (pick c (pick d (checked-of.Refused 3 1) (checked-of.Accepted (length (records s)) (widgets (records s)))) (checked-of.Refused 2 513))) ≡ checked-of.Refused n at
+    go : (a b c : Bool)
+        → pick a (pick b (pick c (checked-of.Refused number.noRoom 1) (checked-of.Accepted (headingIn s .records + length (records s)) (widgets (records s)))) (checked-of.Refused number.tooLong 513)) (checked-of.Refused number.malformed (misplaced s)) ≡ checked-of.Refused n at
         → 0 < n
-    go true b c d h = let e : 1 ≡ n = cc in omega (arith, e)
-    go false true c d h = let e : 1 ≡ n = cc in omega (arith, e)
-    go false false false d h = let e : 2 ≡ n = cc in omega (arith, e)
-    go false false true true h = let e : 3 ≡ n = cc in omega (arith, e)
-    go false false true false h = let o : _≡_ {A = ℕ} 0 1 = cc in absurd (omega arith)
+    go true true true h = let e : 3 ≡ n = cc in omega (arith, e)
+    go true true false h = let o : _≡_ {A = ℕ} 0 1 = cc in absurd (omega arith)
+    go true false c h = let e : 2 ≡ n = cc in omega (arith, e)
+    go false b c h = let e : 1 ≡ n = cc in omega (arith, e)
 
 module _ (text : List ℕ) (known : Bool) (m : Memory) (sizing : Bool) (out : List ℤ) (p : Passed) (exit : List ℤ) where
   pub shown : Called text known m sizing out p exit → p .laid ≡ Accepted → Shown text known m sizing p exit

@@ -1,37 +1,37 @@
 -- What a pass leaves in a lent slice: eight places for each W before the fault, all of them there, and every other place as it was.
 -- Assumes nothing.
-use Prim.Native.Nat.{ℕ, zero, suc, _+_, _-_, _*_, _≤_, _<_}
+use Prim.Native.Nat.{ℕ, _+_, _*_, _≤_, _<_}
 use mathlib.Core.Path.{_≡_, refl, ap, _∙_}
 use mathlib.Core.Bool.{Bool, true, false, cond}
 use mathlib.Core.List.{List, [], _∷_, _++_}
 use native.Mathlib.Omega.{arith}
 use lib.IntN.{ℤ}
 use lib.Dec.{eqb, ltb}
-use borrow.Author.Tests.{ltb-true, ltb-false}
-use lib.ListN.{length, take, drop, length-append, drop-of-length-le}
-use lib.Seq.{sets-eq, length-sets, drop-nil}
+use borrow.Author.Tests.{ltb-false, eqb-true}
+use lib.ListN.{length, take, drop, length-append}
+use lib.Seq.{sets-eq, length-sets}
 use lib.Ieee.{Float}
 use Rattle.emath.specs.Steps.{tick}
+use Rattle.emath.specs.Numbers as number
+use Rattle.emath.proofs.Refusals.{or-none}
 use Rattle.emath.specs.declared.Vec2.{Vec2}
 use Rattle.grid.specs.declared.Memory.{Memory}
 use Rattle.placer.specs.declared.Placer.{Placer}
-use Rattle.records.specs.Records.{recordAt, size, rest, nextAt}
-use Rattle.records.proofs.Places.{next-is-rest}
-use Rattle.records.specs.Implementation.Keeping.{Kept}
-use Rattle.records.proofs.Reached.{records-step}
-use Rattle.records.proofs.Keeping.{kept-next}
-use Rattle.sheet.specs.Implementation.Passing.{Room}
-use Rattle.records.specs.Sheets.{recordsFrom, records, after, misplaced, widgets, widget, widgetStep, isEmpty, pick, sized, checked}
+use Rattle.records.specs.Headings.{headingIn, headingFault}
+use Rattle.records.specs.Sheets.{records, afterAll, wrongFrom, misplaced, widgets, widget, widgetStep, isEmpty, pick, sized, checked}
+use Rattle.records.specs.Implementation.Keeping.{KeptIn}
+use Rattle.records.proofs.Places.{heading-within}
+use Rattle.records.proofs.Prefixes.{few-records}
+use Rattle.sheet.specs.Implementation.Walks.{OnlySteps, none, more, Room}
 use Rattle.records.specs.declared.Checked.{Checked}
 use Rattle.records.specs.declared.Checked.the-variants.{Accepted, Refused}
-use Rattle.records.specs.declared.Heading.{Heading}
 use Rattle.records.specs.declared.Step.{Step}
 use Rattle.records.specs.declared.Step.the-variants.{Widget, Space, RowHeight, MaxWidth, MaxHeight, MinWidth, MinHeight, RowEnd}
 use Rattle.records.specs.declared.Record.{Record}
 use Rattle.records.specs.declared.Record.the-variants as record-of
 use Rattle.sheet.specs.Pass as pass-rules
 use Rattle.sheet.specs.Pass.{Sheet, Cell, Ran, Stepped, stepped, followed, runFrom, called, headed, gridded, begun, ranWith, plateOf, remembered, refusedAt, outcomeOf, pass}
-use Rattle.sheet.specs.Texts.{stepsOf, noHeading, afterHeading, sheetOf, sheetIn}
+use Rattle.sheet.specs.Texts.{stepsOf, sheetIn}
 use Rattle.sheet.specs.Slices.{written, judged, laid}
 use Rattle.sheet.specs.Slices.{controls}
 
@@ -69,22 +69,22 @@ run-few k sp n p (st ∷ rest) =
 
 ran-few : (k : ℕ) (s : Sheet) (known : Bool) (m : Memory) (sizing : Bool) (p : Placer) → length (ranWith k s known m sizing p .cells) ≤ controls (s .steps)
 unfolding ranWith begun
-ran-few k s known m sizing p = go (s .«has_grid»)
+ran-few k s known m sizing p = go (s .heading .«has_grid»)
   where
     later : Ran
-    later = runFrom k (s .heading .spacing) 3 (gridded (s .heading) (s .options) known m sizing p .placer) (s .steps)
+    later = runFrom k (s .heading .spacing) (s .heading .records + 1) (gridded (s .heading) known m sizing p .placer) (s .steps)
 
-    go : (b : Bool) → length (cond b (followed 2 (called (gridded (s .heading) (s .options) known m sizing p)) later) (runFrom k (s .heading .spacing) 2 p (s .steps)) .cells) ≤ controls (s .steps)
+    go : (b : Bool) → length (cond b (followed (s .heading .records) (called (gridded (s .heading) known m sizing p)) later) (runFrom k (s .heading .spacing) (s .heading .records + 1) p (s .steps)) .cells) ≤ controls (s .steps)
     go true =
-        let f = followed-few 2 (called (gridded (s .heading) (s .options) known m sizing p)) later (controls (s .steps)) (run-few k (s .heading .spacing) 3 (gridded (s .heading) (s .options) known m sizing p .placer) (s .steps)) in
+        let f = followed-few (s .heading .records) (called (gridded (s .heading) known m sizing p)) later (controls (s .steps)) (run-few k (s .heading .spacing) (s .heading .records + 1) (gridded (s .heading) known m sizing p .placer) (s .steps)) in
         omega (arith, f)
-    go false = run-few k (s .heading .spacing) 2 p (s .steps)
+    go false = run-few k (s .heading .spacing) (s .heading .records + 1) p (s .steps)
 
 pub outcome-cells : (grid : Bool) (m : Memory) (r : Ran) → outcomeOf grid m r .cells ≡ r .cells
 unfolding outcomeOf
 outcome-cells grid m r = go (eqb (r .number) 0)
   where
-    go : (b : Bool) → cond b (record { number = 0; at = 0; cells = r .cells; plate = plateOf (r .placer); memory = remembered grid m (r .placer) .memory; save = remembered grid m (r .placer) .save }) (refusedAt (r .number) (r .at) (r .cells) m) .cells ≡ r .cells
+    go : (b : Bool) → cond b (record { number = 0; at = 0; cells = r .cells; plate = plateOf r; memory = remembered grid m (r .placer) .memory; save = remembered grid m (r .placer) .save }) (refusedAt (r .number) (r .at) (r .cells) m) .cells ≡ r .cells
     go true = refl
     go false = refl
 
@@ -93,80 +93,56 @@ unfolding pass begun
 pass-few k s known m sizing =
     let r = ranWith k s known m sizing (headed k (s .heading) .placer) in
     let f = followed-few 1 (called (headed k (s .heading))) r (controls (s .steps)) (ran-few k s known m sizing (headed k (s .heading) .placer)) in
-    omega (arith, f, ap (λ (cs : List Cell). length cs) (outcome-cells (s .«has_grid») m (followed 1 (called (headed k (s .heading))) r)))
+    omega (arith, f, ap (λ (cs : List Cell). length cs) (outcome-cells (s .heading .«has_grid») m (followed 1 (called (headed k (s .heading))) r)))
 
 -- ---- no more W among a sheet's steps than among the text's records
-steps-few : (rs : List Record) → controls (stepsOf rs) ≤ widgets rs
+pub sheet-few : (rs : List Record) → controls (stepsOf rs) ≤ widgets rs
 unfolding stepsOf controls widgets widget
-steps-few [] = omega arith
-steps-few (record-of.Step st ∷ rs) = omega (arith, steps-few rs)
-steps-few (record-of.Heading h ∷ rs) = omega (arith, steps-few rs)
-steps-few (record-of.Grid g ∷ rs) = omega (arith, steps-few rs)
-steps-few (record-of.Wrong ∷ rs) = omega (arith, steps-few rs)
+sheet-few [] = omega arith
+sheet-few (record-of.Step st ∷ rs) = omega (arith, sheet-few rs)
+sheet-few (record-of.Wrong ∷ rs) = omega (arith, sheet-few rs)
 
-after-few : (h : Heading) (rs : List Record) → controls (afterHeading h rs .steps) ≤ widgets rs
-unfolding afterHeading controls widgets widget
-after-few h [] = omega arith
-after-few h (record-of.Step st ∷ rs) = omega (arith, steps-few rs)
-after-few h (record-of.Heading x ∷ rs) = omega (arith, steps-few rs)
-after-few h (record-of.Grid g ∷ rs) = omega (arith, steps-few rs)
-after-few h (record-of.Wrong ∷ rs) = omega (arith, steps-few rs)
+-- ---- a text that is not refused
+pub record Clear (text : List ℕ) (room : ℕ) : Type 0 where
+  pub heading : headingFault text ≡ 0
+  pub steps : wrongFrom (headingIn text .records + 1) (records text) ≡ 0
+  pub fits : 8 * widgets (records text) ≤ room
 
-nothing-there : widgets [] ≡ 0
-unfolding widgets
-nothing-there = refl
+pub clear : (text : List ℕ) (room r w : ℕ) → checked text room ≡ Accepted r w → Clear text room
+unfolding checked sized misplaced
+clear text room r w h = go (eqb (misplaced text) 0) (isEmpty (afterAll text)) (ltb room (8 * widgets (records text))) refl refl h
+  where
+    go : (a b c : Bool) → eqb (misplaced text) 0 ≡ a → ltb room (8 * widgets (records text)) ≡ c
+        → pick a (pick b (pick c (Refused number.noRoom 1) (Accepted (headingIn text .records + length (records text)) (widgets (records text)))) (Refused number.tooLong 513)) (Refused number.malformed (misplaced text)) ≡ Accepted r w
+        → Clear text room
+    go true true true e d h = let o : _≡_ {A = ℕ} 0 1 = cc in absurd (omega arith)
+    go true true false e d h =
+        let z = or-none (headingFault text) (wrongFrom (headingIn text .records + 1) (records text)) (eqb-true (misplaced text) 0 e) in
+        record { heading = z .0; steps = z .1; fits = ltb-false room (8 * widgets (records text)) d }
+    go true false c e d h = let o : _≡_ {A = ℕ} 0 1 = cc in absurd (omega arith)
+    go false b c e d h = let o : _≡_ {A = ℕ} 0 1 = cc in absurd (omega arith)
 
-pub sheet-few : (rs : List Record) → controls (sheetOf rs .steps) ≤ widgets rs
-unfolding sheetOf widgets widget
-sheet-few [] = after-few noHeading []
-sheet-few (record-of.Heading h ∷ rs) = omega (arith, after-few h rs)
-sheet-few (record-of.Step st ∷ rs) = omega (arith, after-few noHeading [], nothing-there)
-sheet-few (record-of.Grid g ∷ rs) = omega (arith, after-few noHeading [], nothing-there)
-sheet-few (record-of.Wrong ∷ rs) = omega (arith, after-few noHeading [], nothing-there)
-
--- ---- a slice that is not refused has eight places for each W
 pub room-there : (text : List ℕ) (room r w : ℕ) → checked text room ≡ Accepted r w → 8 * widgets (records text) ≤ room
-unfolding checked sized
-room-there text room r w h = go (isEmpty text) (ltb 0 (misplaced 1 (records text))) (isEmpty (after 512 text)) (ltb room (8 * widgets (records text))) refl h
-  where
-    go : (a b c d : Bool) → ltb room (8 * widgets (records text)) ≡ d
-        → pick a (Refused 1 1) (pick b (Refused 1 (misplaced 1 (records text))) (pick c (pick d (Refused 3 1) (Accepted (length (records text)) (widgets (records text)))) (Refused 2 513))) ≡ Accepted r w
-        → 8 * widgets (records text) ≤ room
-    go true b c d e h = let o : _≡_ {A = ℕ} 0 1 = cc in absurd (omega arith)
-    go false true c d e h = let o : _≡_ {A = ℕ} 0 1 = cc in absurd (omega arith)
-    go false false false d e h = let o : _≡_ {A = ℕ} 0 1 = cc in absurd (omega arith)
-    go false false true true e h = let o : _≡_ {A = ℕ} 0 1 = cc in absurd (omega arith)
-    go false false true false e h = ltb-false room (8 * widgets (records text)) e
+room-there text room r w h = clear text room r w h .fits
 
-one-more : (r : Record) (rs : List Record) → widgets (r ∷ rs) ≡ widget r + widgets rs
-unfolding widgets
-one-more r rs = refl
+-- so its records are steps
+pub only-steps : (k : ℕ) (rs : List Record) → 0 < k → wrongFrom k rs ≡ 0 → OnlySteps rs
+unfolding wrongFrom
+only-steps k [] l h = none
+only-steps k (record-of.Step st ∷ rs) l h = more (only-steps (k + 1) rs (omega arith) h)
+only-steps k (record-of.Wrong ∷ rs) l h = absurd (omega (arith, h))
 
-no-records : (left : ℕ) → widgets (recordsFrom left []) ≡ 0
-unfolding recordsFrom widgets
-no-records zero = refl
-no-records (suc left) = refl
-
--- so it has for those after H, and after G
-fewer-after : (left : ℕ) (text : List ℕ) (at : ℕ) → 0 < left → widgets (recordsFrom (left - 1) (drop (nextAt text at) text)) ≤ widgets (recordsFrom left (drop at text))
-fewer-after left text at more = go (ltb at (length text)) refl
-  where
-    go : (b : Bool) → ltb at (length text) ≡ b → widgets (recordsFrom (left - 1) (drop (nextAt text at) text)) ≤ widgets (recordsFrom left (drop at text))
-    go true e = omega (arith, ap (λ (rs : List Record). widgets rs) (records-step left text at more (ltb-true at (length text) e)) ∙ one-more (recordAt text at) (recordsFrom (left - 1) (drop (nextAt text at) text)))
-    go false e =
-        let l : length text ≤ at = ltb-false at (length text) e in
-        let d : drop at text ≡ [] = drop-of-length-le text l in
-        let f : drop (nextAt text at) text ≡ [] = next-is-rest text at ∙ ap (λ (u : List ℕ). rest u) d ∙ drop-nil (size []) in
-        let z : widgets (recordsFrom (left - 1) (drop (nextAt text at) text)) ≡ 0 = ap (λ (u : List ℕ). widgets (recordsFrom (left - 1) u)) f ∙ no-records (left - 1) in
-        omega (arith, z)
-
-pub room-after : (text : List ℕ) (room r w : ℕ) (sizes : List Float) → length sizes ≡ 1026 → Kept 512 text sizes 1 → checked text room ≡ Accepted r w → Room text room sizes
+pub room-after : (text : List ℕ) (room r w : ℕ) (sizes : List Float) → length sizes ≡ 1026 → KeptIn text sizes → checked text room ≡ Accepted r w → Room (headingIn text) text room sizes
 room-after text room r w sizes l k e =
-    let h = room-there text room r w e in
-    let a = fewer-after 512 text 0 (omega arith) in
-    let b = fewer-after 511 text (nextAt text 0) (omega arith) in
-    let next : Kept 511 (drop (nextAt text 0) text) sizes 2 = kept-next text sizes 0 1 512 k in
-    record { plain = omega (arith, h, a); grid = omega (arith, h, a, b); places = l; kept = next; kept-grid = kept-next text sizes (nextAt text 0) 2 511 next }
+    let c = clear text room r w e in
+    record {
+      few = omega (arith, few-records text);
+      begins = heading-within text;
+      only = only-steps (headingIn text .records + 1) (records text) (omega arith) (c .steps);
+      fits = c .fits;
+      places = l;
+      kept = k;
+    }
 
 -- ---- the slice
 -- it stays as long as it was

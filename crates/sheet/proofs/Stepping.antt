@@ -24,7 +24,6 @@ use Rattle.placer.specs.declared.PlacerAnswer.{PlacerAnswer}
 use Rattle.layout.specs.declared.Layout.{Layout}
 use Rattle.grid.specs.declared.Memory.{Memory}
 use Rattle.records.specs.declared.Heading.{Heading}
-use Rattle.records.specs.declared.GridOptions.{GridOptions}
 use Rattle.records.specs.declared.Step.{Step}
 use Rattle.records.specs.declared.Step.the-variants.{Widget, Space, RowHeight, MaxWidth, MaxHeight, MinWidth, MinHeight, RowEnd}
 use Rattle.records.specs.declared.Record.{Record}
@@ -81,8 +80,6 @@ step-none p sp RowEnd h = let c = changed-accepted _ p _ h in rw (c .2) (c .1)
 
 pub moved-none : (p : Placer) (sp : Vec2) (r : Record) → recordMoved p sp r .number ≡ 0 → placerFault (recordMoved p sp r .placer) ≡ 0
 unfolding recordMoved
-moved-none p sp (record-of.Heading x) h = absurd (let z : _≡_ {A = ℕ} 1 0 = h in omega arith)
-moved-none p sp (record-of.Grid x) h = absurd (let z : _≡_ {A = ℕ} 1 0 = h in omega arith)
 moved-none p sp (record-of.Step st) h = step-none p sp st h
 moved-none p sp record-of.Wrong h = absurd (let z : _≡_ {A = ℕ} 1 0 = h in omega arith)
 
@@ -94,9 +91,9 @@ pub headed-none : (k : ℕ) (r : Rect) (l : Layout) (a : PlacerAnswer) → a ≡
 unfolding checkedNew
 headed-none k r l a e h = changed-none _ _ _ a e h
 
-pub gridded-none : (h : Heading) (o : GridOptions) (known : Bool) (m : Memory) (sizing : Bool) (p : Placer) (a : PlacerAnswer) → a ≡ gridded h o known m sizing p → a .number ≡ 0 → placerFault (a .placer) ≡ 0
+pub gridded-none : (h : Heading) (known : Bool) (m : Memory) (sizing : Bool) (p : Placer) (a : PlacerAnswer) → a ≡ gridded h known m sizing p → a .number ≡ 0 → placerFault (a .placer) ≡ 0
 unfolding gridded checkedSetGrid
-gridded-none h o known m sizing p a e z =
-    let b = checkedSetGrid p (gridOf h o known m sizing p .grid) in
-    let n = or-none (gridOf h o known m sizing p .number) (b .number) (ap (λ (x : PlacerAnswer). x .number) (sym e) ∙ z) .1 in
+gridded-none h known m sizing p a e z =
+    let b = checkedSetGrid p (gridOf h known m sizing p .grid) in
+    let n = or-none (gridOf h known m sizing p .number) (b .number) (ap (λ (x : PlacerAnswer). x .number) (sym e) ∙ z) .1 in
     rw e (changed-none _ _ _ b refl n)

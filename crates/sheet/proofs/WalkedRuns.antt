@@ -22,7 +22,8 @@ use Rattle.sheet.specs.Pass.{Cell, Stepped, Ran, widgetStep, stepped, fo
 use Rattle.sheet.specs.Texts.{stepsOf}
 use Rattle.sheet.specs.Slices.{eight, written}
 use Rattle.sheet.specs.Implementation.Calls.{Moved, placement, stepMoved, recordMoved}
-use Rattle.sheet.specs.Implementation.Walks.{putAt, Walk, pick, done, walked}
+use Rattle.sheet.specs.Implementation.Walks.{putAt, Run, Walked, OnlySteps, more}
+use Rattle.sheet.proofs.Walks.{Walk, pick, done, walked}
 
 -- ---- stores one after the other
 sets-append : (xs ys l : List ℤ) (i : ℕ) → sets l i (xs ++ ys) ≡ sets (sets l i xs) (i + length xs) ys
@@ -58,10 +59,6 @@ as-rule p sp (MinHeight v) out w = record { number = refl; placer = refl; puts =
 as-rule p sp RowEnd out w = record { number = refl; placer = refl; puts = λ cs. no-place out w cs }
 
 -- ---- the run
-pub data OnlySteps : List Record → Type 0 where
-  none : OnlySteps []
-  more : {st : Step} {rs : List Record} → OnlySteps rs → OnlySteps (record-of.Step st ∷ rs)
-
 abbrev pub walkOf : List ℤ → ℕ → Ran → Walk
 walkOf out w r = record { run = record { number = r .number; at = r .at; placer = r .placer }; slice = sets out (8 * w) (written (r .cells)) }
 
@@ -113,3 +110,11 @@ walked-is-run (suc left) sp n p (b ∷ s) out w o =
     let f = first-step o in
     let t = step-turn left sp n p (rest (b ∷ s)) out w (f .0) (recordsFrom left (rest (b ∷ s))) (λ n p out w. walked-is-run left sp n p (rest (b ∷ s)) out w (f .2)) in
     front-turn left sp n p b s out w ∙ subst (λ (r : Record). turn-of left sp n p (rest (b ∷ s)) out w r ≡ walkOf out w (runFrom tick sp n p (stepsOf (r ∷ recordsFrom left (rest (b ∷ s)))))) (sym (f .1)) t
+
+-- so is what the loop comes to
+pub as-walked : (most : ℕ) (sp : Vec2) (n : ℕ) (p : Placer) (s : List ℕ) (out : List ℤ) (r : Run) (exit : List ℤ) → OnlySteps (recordsFrom most s)
+    → record { run = r; slice = exit } ≡ walked most sp n p s out 0 → Walked sp n p (stepsOf (recordsFrom most s)) out r exit
+as-walked most sp n p s out r exit o e =
+    let x : record { run = r; slice = exit } ≡ walkOf out 0 (runFrom tick sp n p (stepsOf (recordsFrom most s))) = e ∙ walked-is-run most sp n p s out 0 o in
+    let y : r ≡ record { number = runFrom tick sp n p (stepsOf (recordsFrom most s)) .number; at = runFrom tick sp n p (stepsOf (recordsFrom most s)) .at; placer = runFrom tick sp n p (stepsOf (recordsFrom most s)) .placer } = ap (λ (w : Walk). w .run) x in
+    record { run = rw y; slice = ap (λ (w : Walk). w .slice) x }

@@ -23,7 +23,8 @@ use Rattle.records.specs.declared.Record.{Record}
 use Rattle.records.specs.declared.Record.the-variants as record-of
 use Rattle.sheet.specs.Pass.{cellOf}
 use Rattle.sheet.specs.Implementation.Calls.{Moved, placement, stepMoved, recordMoved}
-use Rattle.sheet.specs.Implementation.Walks.{putAt, Walk, pick, done, walked}
+use Rattle.sheet.specs.Implementation.Walks.{putAt}
+use Rattle.sheet.proofs.Walks.{Walk, pick, done, walked}
 use Rattle.sheet.proofs.Runs.{widget-placed}
 use Rattle.sheet.proofs.Stepping.{moved-none}
 use Rattle.sheet.proofs.PlacedCells.{cell-whole}
@@ -42,8 +43,6 @@ step-placed p sp RowEnd = refl
 
 pub moved-placed : (p : Placer) (sp : Vec2) (r : Record) → recordMoved p sp r .placed ≡ widget r
 unfolding recordMoved widget
-moved-placed p sp (record-of.Heading h) = refl
-moved-placed p sp (record-of.Grid g) = refl
 moved-placed p sp (record-of.Step st) = step-placed p sp st
 moved-placed p sp record-of.Wrong = refl
 
@@ -63,8 +62,6 @@ step-whole p sp RowEnd n l = absurd (omega (arith, l))
 
 pub moved-whole : (p : Placer) (sp : Vec2) (r : Record) → recordMoved p sp r .number ≡ 0 → 0 < recordMoved p sp r .placed → Whole (recordMoved p sp r)
 unfolding recordMoved
-moved-whole p sp (record-of.Heading h) n l = absurd (omega (arith, l))
-moved-whole p sp (record-of.Grid g) n l = absurd (omega (arith, l))
 moved-whole p sp (record-of.Step st) n l = step-whole p sp st n l
 moved-whole p sp record-of.Wrong n l = absurd (omega (arith, l))
 
@@ -81,8 +78,6 @@ one-or-none RowEnd = omega arith
 
 pub at-most-one : (r : Record) → widget r ≤ 1
 unfolding widget
-at-most-one (record-of.Heading h) = omega arith
-at-most-one (record-of.Grid g) = omega arith
 at-most-one (record-of.Step st) = one-or-none st
 at-most-one record-of.Wrong = omega arith
 

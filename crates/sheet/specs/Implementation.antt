@@ -1,4 +1,3 @@
 -- How the code goes through a text. Not part of the specification.
 pub mod Calls
 pub mod Walks
-pub mod Passing

@@ -18,15 +18,12 @@ use Rattle.placer.specs.Operations.{checkedNew, checkedSetGrid, checkedAdvanceC
 use Rattle.placer.specs.declared.Placer.{Placer}
 use Rattle.placer.specs.declared.PlacerAnswer.{PlacerAnswer}
 use Rattle.records.specs.declared.Heading.{Heading}
-use Rattle.records.specs.declared.GridOptions.{GridOptions}
 use Rattle.records.specs.declared.Step.{Step}
 use Rattle.records.specs.declared.Step.the-variants.{Widget, Space, RowHeight, MaxWidth, MaxHeight, MinWidth, MinHeight, RowEnd}
 
--- a sheet that 1 to 3 do not turn back: H, G if there is one, and the records after them
+-- a sheet that 1 to 3 do not turn back: its heading, and the steps after it
 pub record Sheet : Type 0 where
   pub heading : Heading
-  pub «has_grid» : Bool
-  pub options : GridOptions
   pub steps : List Step
 
 -- ---- what a record gives
@@ -99,21 +96,21 @@ unfoldable pub headed : ℕ → Heading → PlacerAnswer
 headed k h = checkedNew k (h .«max_rect») (h .layout)
 
 -- G: GridLayout's `new` with the given memory, then `set_grid`
-unfoldable pub gridOf : Heading → GridOptions → Bool → Memory → Bool → Placer → GridAnswer
-gridOf h o known m sizing p =
-    checkedNewGrid (h .layout .«main_dir») (p .region) known m sizing (h .spacing) (o .«min_cell_size») (o .«max_cell_size») (o .«num_columns») (o .«start_row»)
+unfoldable pub gridOf : Heading → Bool → Memory → Bool → Placer → GridAnswer
+gridOf h known m sizing p =
+    checkedNewGrid (h .layout .«main_dir») (p .region) known m sizing (h .spacing) (h .options .«min_cell_size») (h .options .«max_cell_size») (h .options .«num_columns») (h .options .«start_row»)
 
-unfoldable pub gridded : Heading → GridOptions → Bool → Memory → Bool → Placer → PlacerAnswer
-gridded h o known m sizing p =
+unfoldable pub gridded : Heading → Bool → Memory → Bool → Placer → PlacerAnswer
+gridded h known m sizing p =
     record {
-      number = orElse (gridOf h o known m sizing p .number) (checkedSetGrid p (gridOf h o known m sizing p .grid) .number);
-      placer = checkedSetGrid p (gridOf h o known m sizing p .grid) .placer;
+      number = orElse (gridOf h known m sizing p .number) (checkedSetGrid p (gridOf h known m sizing p .grid) .number);
+      placer = checkedSetGrid p (gridOf h known m sizing p .grid) .placer;
     }
 
 -- ---- one pass
 -- "The plate is the final min_rect."
-unfoldable pub plateOf : Placer → Rect
-plateOf p = p .region .«min_rect»
+unfoldable pub plateOf : Ran → Rect
+plateOf r = r .placer .region .«min_rect»
 
 -- what a pass gives: the refusal's number and record, the rectangles written, the plate, the memory, and whether it is to be saved
 pub record Outcome : Type 0 where
@@ -135,21 +132,22 @@ remembered grid m p = cond grid (saveGrid p) (record { memory = m; save = false 
 unfoldable pub outcomeOf : Bool → Memory → Ran → Outcome
 outcomeOf grid m r =
     cond (eqb (r .number) 0)
-    (record { number = 0; at = 0; cells = r .cells; plate = plateOf (r .placer); memory = remembered grid m (r .placer) .memory; save = remembered grid m (r .placer) .save })
+    (record { number = 0; at = 0; cells = r .cells; plate = plateOf r; memory = remembered grid m (r .placer) .memory; save = remembered grid m (r .placer) .save })
     (refusedAt (r .number) (r .at) (r .cells) m)
 
 -- record n gives a placer, from which the pass goes on, or is refused
 unfoldable pub begun : ℕ → PlacerAnswer → Ran → Ran
 begun n a later = followed n (called a) later
 
--- the records after H, with G or without
+-- the records after H, with G, the last of the heading, or without
 unfoldable pub ranWith : ℕ → Sheet → Bool → Memory → Bool → Placer → Ran
 ranWith k s known m sizing p =
-    cond (s .«has_grid»)
-    (begun 2 (gridded (s .heading) (s .options) known m sizing p)
-    (runFrom k (s .heading .spacing) 3 (gridded (s .heading) (s .options) known m sizing p .placer) (s .steps)))
-    (runFrom k (s .heading .spacing) 2 p (s .steps))
+    cond (s .heading .«has_grid»)
+    (begun (s .heading .records) (gridded (s .heading) known m sizing p)
+    (runFrom k (s .heading .spacing) (s .heading .records + 1) (gridded (s .heading) known m sizing p .placer) (s .steps)))
+    (runFrom k (s .heading .spacing) (s .heading .records + 1) p (s .steps))
 
 -- a pass over a sheet with a memory (or none) and a sizing flag
 unfoldable pub pass : ℕ → Sheet → Bool → Memory → Bool → Outcome
-pass k s known m sizing = outcomeOf (s .«has_grid») m (begun 1 (headed k (s .heading)) (ranWith k s known m sizing (headed k (s .heading) .placer)))
+pass k s known m sizing =
+    outcomeOf (s .heading .«has_grid») m (begun 1 (headed k (s .heading)) (ranWith k s known m sizing (headed k (s .heading) .placer)))

@@ -11,13 +11,11 @@ use placer::Placer;
 use placer::PlacerAnswer;
 use placer::lent::whole;
 use placer::rules::save_grid;
-use records::GridOptions;
 use records::Heading;
 ghost use mathlib.Core.Path.{_≡_};
-ghost use mathlib.Core.List.{[]};
-ghost use Rattle.sheet.specs.Pass.{refusedAt, outcomeOf, gridded as griddedBy};
-ghost use Rattle.sheet.specs.Implementation.Passing.{ranOf};
-ghost use Rattle.sheet.specs.Implementation.Walks.{runOf};
+ghost use mathlib.Core.List.{List, []};
+ghost use Rattle.sheet.specs.Pass.{Cell, refusedAt, outcomeOf, gridded as griddedBy};
+ghost use Rattle.sheet.specs.Implementation.Walks.{runOf, ranOf};
 ghost use Rattle.sheet.specs.Slices.{laidOf, passedOf};
 
 fn laid_of(number: u8, at: usize) -> Laid
@@ -58,7 +56,7 @@ pub(crate) fn finish(
     widths: [f32; 32],
     heights: [f32; 128],
 ) -> Passed
-    ensures { λ p. ⌜ p ≡ passedOf (outcomeOf grid memory (ranOf (runOf placer r (prev .«col_widths») (prev .«row_heights») widths heights))) ⌝ }
+    ensures { λ p. ⌜ ((cs : List Cell) → p ≡ passedOf (outcomeOf grid memory (ranOf cs (runOf placer r (prev .«col_widths») (prev .«row_heights») widths heights)))) ⌝ }
 {
     let number = r.number;
     if number != 0 {
@@ -89,16 +87,16 @@ pub(crate) fn finish(
 // G: GridLayout's `new` with the given memory, then `set_grid`.
 pub(crate) fn gridded(
     heading: Heading,
-    options: GridOptions,
     known: bool,
     memory: Memory,
     sizing: bool,
     placer: Placer,
 ) -> PlacerAnswer
-    ensures { λ a. ⌜ a ≡ griddedBy heading options known memory sizing placer ⌝ }
+    ensures { λ a. ⌜ a ≡ griddedBy heading known memory sizing placer ⌝ }
 {
     let layout = heading.layout;
     let main_dir = layout.main_dir;
+    let options = heading.options;
     let region = placer.region;
     let a = GridLayout::new(
         main_dir,

@@ -149,7 +149,7 @@ fn step_moved(
     }
 }
 
-// A heading or a grid's options here, or what is no record, is 1; a sheet that was checked has none.
+// What is no step is 1; a sheet that was checked has none.
 pub fn record_moved(
     placer: BarePlacer,
     spot: Spot,
@@ -164,8 +164,6 @@ pub fn record_moved(
     ensures { λ m. ⌜ movedOf placer m (now («prev_widths» .entry)) (now («prev_heights» .entry)) (now (widths .exit)) (now (heights .exit)) ≡ recordMoved (placerOf placer spot (now («prev_widths» .entry)) (now («prev_heights» .entry)) (now (widths .entry)) (now (heights .entry))) spacing r ⌝ }
 {
     match r {
-        Record::Heading(_) => moved(MALFORMED, spot),
-        Record::Grid(_) => moved(MALFORMED, spot),
         Record::Step(st) => step_moved(
             placer,
             spot,

@@ -14,7 +14,8 @@ ghost use Rattle.records.specs.Sheets.{recordsFrom, widgets};
 ghost use Rattle.records.specs.Implementation.Keeping.{Kept};
 ghost use Rattle.placer.specs.Implementation.Lent.{placerOf};
 ghost use Rattle.sheet.specs.Implementation.Calls.{Ready};
-ghost use Rattle.sheet.specs.Implementation.Walks.{runOf, walked};
+ghost use Rattle.sheet.specs.Texts.{stepsOf};
+ghost use Rattle.sheet.specs.Implementation.Walks.{runOf, Walked, OnlySteps};
 
 // From the place `from`, where record `first` is, at most `most` records, the W as they were kept; each W's rectangles go to the slice.
 pub fn run(
@@ -34,8 +35,8 @@ pub fn run(
 ) -> SpotRun
     requires { ⌜ Ready placer spot (now «prev_widths») (now «prev_heights») (now widths) (now heights) ⌝ }
     requires { ⌜ (from ≤ length (now text)) × (first + most ≤ 513) ⌝ }
-    requires { ⌜ (8 * widgets (recordsFrom most (drop from (now text))) ≤ length (now out)) × (length (now sizes) ≡ 1026) × Kept most (drop from (now text)) (now sizes) first ⌝ }
-    ensures { λ r. ⌜ record { run = runOf placer r (now («prev_widths» .entry)) (now («prev_heights» .entry)) (now (widths .exit)) (now (heights .exit)); slice = now (out .exit) } ≡ walked most spacing first (placerOf placer spot (now («prev_widths» .entry)) (now («prev_heights» .entry)) (now (widths .entry)) (now (heights .entry))) (drop from (now (text .entry))) (now (out .entry)) 0 ⌝ }
+    requires { ⌜ OnlySteps (recordsFrom most (drop from (now text))) × (8 * widgets (recordsFrom most (drop from (now text))) ≤ length (now out)) × (length (now sizes) ≡ 1026) × Kept most (drop from (now text)) (now sizes) first ⌝ }
+    ensures { λ r. ⌜ Walked spacing first (placerOf placer spot (now («prev_widths» .entry)) (now («prev_heights» .entry)) (now (widths .entry)) (now (heights .entry))) (stepsOf (recordsFrom most (drop from (now (text .entry))))) (now (out .entry)) (runOf placer r (now («prev_widths» .entry)) (now («prev_heights» .entry)) (now (widths .exit)) (now (heights .exit))) (now (out .exit)) ⌝ }
 {
     let mut s = spot;
     let mut at = from;

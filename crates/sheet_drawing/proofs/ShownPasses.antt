@@ -16,6 +16,7 @@ use Rattle.layout.specs.Steps.{WholeRect}
 use Rattle.grid.specs.Memories.{emptyMemory, widths, heights}
 use Rattle.grid.specs.declared.Memory.{Memory}
 use Rattle.text.specs.Lines.{texts, line}
+use Rattle.records.specs.Headings.{headingIn}
 use Rattle.records.specs.Sheets.{records, widget, widgets, checked}
 use Rattle.records.specs.declared.Record.{Record}
 use Rattle.records.specs.declared.Checked.the-variants as checked-of
@@ -28,7 +29,7 @@ use Rattle.sheet.specs.Texts.{sheetIn}
 use Rattle.sheet.proofs.Shown.{pass-all}
 use Rattle.sheet.proofs.Slices.{pass-few, room-there}
 use Rattle.pass_laws.proofs.TextTicks.{text-whole}
-use Rattle.sheet.proofs.WalkedPasses.{no-such, no-fault}
+use Rattle.sheet.proofs.WalkedPasses.{no-such}
 use Rattle.pass_laws.proofs.WholeEdges.{whole-pass}
 use Rattle.listing.specs.Lists.{widgetLines, printed, acceptedLines, outcomeLines, memoryLines, answered, listOf}
 use Rattle.listing.specs.Implementation.Putting.{WholeMemory}
@@ -95,15 +96,15 @@ module _ (a : List ℕ) (n : ℕ) (at : length a ≡ 74 * n + 34) (m : Memory) w
   grid-rows true w = rw (← at) (rows-counted a (widths m) (heights m) (omega (arith, few (m .rows) (m .«row_heights»), w refl .rows)))
   grid-rows false w = let e : 74 * n + 34 + 18 * 0 ≡ length a = omega (arith, at) in rw e (none-counted 68 128 a)
 
-split-there : (rs : List Record) (cs before : List Cell) (c : Cell) (after : List Cell) (tail : List ℕ) → cs ≡ before ++ (c ∷ after) → (p : Split 1 rs before c after)
-    → widgetLines 1 rs cs ++ tail ≡ p .front ++ (widgetLine (p .number) c ++ (p .back ++ tail))
-split-there rs cs before c after tail e p =
-    ap (λ (x : List Cell). widgetLines 1 rs x ++ tail) e
+split-there : (n : ℕ) (rs : List Record) (cs before : List Cell) (c : Cell) (after : List Cell) (tail : List ℕ) → cs ≡ before ++ (c ∷ after) → (p : Split n rs before c after)
+    → widgetLines n rs cs ++ tail ≡ p .front ++ (widgetLine (p .number) c ++ (p .back ++ tail))
+split-there n rs cs before c after tail e p =
+    ap (λ (x : List Cell). widgetLines n rs x ++ tail) e
     ∙ ap (λ (x : List ℕ). x ++ tail) (p .is)
     ∙ append-assoc (p .front) (widgetLine (p .number) c ++ p .back) tail
     ∙ ap (λ (x : List ℕ). p .front ++ x) (append-assoc (widgetLine (p .number) c) (p .back) tail)
 
-module _ (grid : Bool) (rs : List Record) (o : Outcome) (memory : grid ≡ true → WholeMemory (o .memory)) (all : widgets rs ≡ length (o .cells)) (room : length (o .cells) ≤ 512) (whole : WholeCells 5 (o .cells)) (plate : WholeRect 5 (o .plate)) where
+module _ (first : ℕ) (grid : Bool) (rs : List Record) (o : Outcome) (memory : grid ≡ true → WholeMemory (o .memory)) (all : widgets rs ≡ length (o .cells)) (room : length (o .cells) ≤ 512) (whole : WholeCells 5 (o .cells)) (plate : WholeRect 5 (o .plate)) where
   abbrev plateLine : List ℕ
   plateLine = line 80 (edges (inTicks 5 (o .plate)))
 
@@ -111,27 +112,27 @@ module _ (grid : Bool) (rs : List Record) (o : Outcome) (memory : grid ≡ true 
   rest = cond grid (memoryLines (o .memory)) []
 
   abbrev drawn : List ℕ
-  drawn = widgetLines 1 rs (o .cells) ++ (plateLine ++ rest)
+  drawn = widgetLines first rs (o .cells) ++ (plateLine ++ rest)
 
   cell-shown : (before after : List Cell) (c : Cell) → o .cells ≡ before ++ (c ∷ after) → (i : ℕ) → i < 8 → fieldOf drawn (74 * length before) (1 + i) ≡ getD (eight c) i (pos 0)
   cell-shown before after c e i h =
-      let p = split 1 rs before c after (all ∙ ap length e) in
+      let p = split first rs before c after (all ∙ ap length e) in
       let v = whole-at before c after (subst (WholeCells 5) e whole) in
       let f : 1 + i ≡ suc i = omega arith in
-      let s = split-there rs (o .cells) before c after (plateLine ++ rest) e p in
+      let s = split-there first rs (o .cells) before c after (plateLine ++ rest) e p in
       rw (s, ← p .at, f) (field-read (p .front) (p .back ++ (plateLine ++ rest)) 87 (pos (p .number) ∷ eight c) (suc i) (eight-small c (v .0) (v .1) i h) (omega arith))
 
   plate-shown : (i : ℕ) → i < 4 → fieldOf drawn (74 * length (o .cells)) i ≡ getD (edges (inTicks 5 (o .plate))) i (pos 0)
-  plate-shown i h = rw (← lines-long 1 rs (o .cells) all) (field-read (widgetLines 1 rs (o .cells)) rest 80 (edges (inTicks 5 (o .plate))) i (edges-small (o .plate) plate [] i h) h)
+  plate-shown i h = rw (← lines-long first rs (o .cells) all) (field-read (widgetLines first rs (o .cells)) rest 80 (edges (inTicks 5 (o .plate))) i (edges-small (o .plate) plate [] i h) h)
 
   abbrev before : List ℕ
-  before = widgetLines 1 rs (o .cells) ++ plateLine
+  before = widgetLines first rs (o .cells) ++ plateLine
 
   parted : before ++ rest ≡ drawn
-  parted = append-assoc (widgetLines 1 rs (o .cells)) plateLine rest
+  parted = append-assoc (widgetLines first rs (o .cells)) plateLine rest
 
   plate-end : length before ≡ 74 * length (o .cells) + 34
-  plate-end = omega (arith, length-append (widgetLines 1 rs (o .cells)) plateLine, lines-long 1 rs (o .cells) all, line-long 80 (edges (inTicks 5 (o .plate))))
+  plate-end = omega (arith, length-append (widgetLines first rs (o .cells)) plateLine, lines-long first rs (o .cells) all, line-long 80 (edges (inTicks 5 (o .plate))))
 
   columns-shown : columnsOf drawn (length (o .cells)) ≡ cond grid (length (widths (o .memory))) 0
   columns-shown = ap (λ (s : List ℕ). columnsOf s (length (o .cells))) (sym parted) ∙ grid-columns before (length (o .cells)) plate-end (o .memory) grid memory
@@ -144,7 +145,7 @@ module _ (grid : Bool) (rs : List Record) (o : Outcome) (memory : grid ≡ true 
 
   pub shows : Shows grid drawn o
   shows = record {
-    controls = counted 512 1 rs (o .cells) [] (plateLine ++ rest) all room (plate-next _ rest);
+    controls = counted 512 first rs (o .cells) [] (plateLine ++ rest) all room (plate-next _ rest);
     cells = cell-shown;
     plate = plate-shown;
     columns = columns-shown;
@@ -154,20 +155,20 @@ module _ (grid : Bool) (rs : List Record) (o : Outcome) (memory : grid ≡ true 
 -- ---- what is drawn of a text
 module _ (text : List ℕ) (r w : ℕ) (e : checked text 4096 ≡ checked-of.Accepted r w) where
   abbrev grid : Bool
-  grid = sheetIn text .«has_grid»
+  grid = sheetIn text .heading .«has_grid»
 
   pass-shown : (known : Bool) (m : Memory) (sizing : Bool) → pass 5 (sheetIn text) known m sizing .number ≡ 0
-      → (grid ≡ true → WholeMemory (pass 5 (sheetIn text) known m sizing .memory)) → Shows grid (acceptedLines grid (records text) (pass 5 (sheetIn text) known m sizing)) (pass 5 (sheetIn text) known m sizing)
+      → (grid ≡ true → WholeMemory (pass 5 (sheetIn text) known m sizing .memory)) → Shows grid (acceptedLines (headingIn text) (records text) (pass 5 (sheetIn text) known m sizing)) (pass 5 (sheetIn text) known m sizing)
   unfolding acceptedLines
   pass-shown known m sizing z f =
-      let a = all-controls text (no-fault text 4096 r w e) in
+      let a = all-controls text in
       let b = pass-all 5 (sheetIn text) known m sizing z in
       let d = pass-few 5 (sheetIn text) known m sizing in
       let t = room-there text 4096 r w e in
       let v = whole-pass 5 (omega arith) (sheetIn text) (text-whole text) known m sizing in
-      shows grid (records text) (pass 5 (sheetIn text) known m sizing) f (omega (arith, a, b, d)) (omega (arith, a, d, t)) (v .cells) (v .plate)
+      shows (headingIn text .records + 1) grid (records text) (pass 5 (sheetIn text) known m sizing) f (omega (arith, a, b, d)) (omega (arith, a, d, t)) (v .cells) (v .plate)
 
-  list-is : printed (sheetIn text) .number ≡ 0 → listOf text ≡ acceptedLines grid (records text) (printed (sheetIn text))
+  list-is : printed (sheetIn text) .number ≡ 0 → listOf text ≡ acceptedLines (headingIn text) (records text) (printed (sheetIn text))
   unfolding listOf answered outcomeLines
   list-is z = rw (e, eq-eqb (printed (sheetIn text) .number) 0 z)
 
@@ -179,16 +180,16 @@ module _ (text : List ℕ) (r w : ℕ) (e : checked text 4096 ≡ checked-of.Acc
       go false t h = no-such h
 
   -- the first pass, and the second
-  first-shown : passes 5 (sheetIn text) emptyMemory 0 .number ≡ 0 → Shows grid (acceptedLines grid (records text) (passes 5 (sheetIn text) emptyMemory 0)) (passes 5 (sheetIn text) emptyMemory 0)
+  first-shown : passes 5 (sheetIn text) emptyMemory 0 .number ≡ 0 → Shows grid (acceptedLines (headingIn text) (records text) (passes 5 (sheetIn text) emptyMemory 0)) (passes 5 (sheetIn text) emptyMemory 0)
   unfolding passes
   first-shown z = pass-shown false emptyMemory true z (λ (g : grid ≡ true). first-whole (sheetIn text) (text-whole text) g z)
 
-  second-shown : passes 5 (sheetIn text) emptyMemory 0 .number ≡ 0 → passes 5 (sheetIn text) emptyMemory 1 .number ≡ 0 → Shows grid (acceptedLines grid (records text) (passes 5 (sheetIn text) emptyMemory 1)) (passes 5 (sheetIn text) emptyMemory 1)
+  second-shown : passes 5 (sheetIn text) emptyMemory 0 .number ≡ 0 → passes 5 (sheetIn text) emptyMemory 1 .number ≡ 0 → Shows grid (acceptedLines (headingIn text) (records text) (passes 5 (sheetIn text) emptyMemory 1)) (passes 5 (sheetIn text) emptyMemory 1)
   unfolding passes
   second-shown one two = pass-shown true (passes 5 (sheetIn text) emptyMemory 0 .memory) false two (λ (g : grid ≡ true). second-whole (sheetIn text) (text-whole text) g one two)
 
   which-shown : (b : Bool) → eqb (passes 5 (sheetIn text) emptyMemory 0 .number) 0 && grid ≡ b → printed (sheetIn text) .number ≡ 0
-      → Shows grid (acceptedLines grid (records text) (printed (sheetIn text))) (printed (sheetIn text))
+      → Shows grid (acceptedLines (headingIn text) (records text) (printed (sheetIn text))) (printed (sheetIn text))
   unfolding printed
   which-shown true h z = rw h (second-shown (first-accepted h) (rw h at z))
   which-shown false h z = rw h (first-shown (rw h at z))

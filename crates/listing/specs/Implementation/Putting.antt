@@ -4,7 +4,7 @@ use mathlib.Core.Bool.{Bool, true, false, cond, _&&_}
 use mathlib.Core.List.{List, [], _∷_}
 use lib.Dec.{leb, eqb}
 use lib.IntN.{ℤ, pos}
-use lib.ListN.{length, getD}
+use lib.ListN.{length, getD, drop}
 use lib.Seq.{sets}
 use lib.Ieee.{Float}
 use Rattle.emath.specs.Steps.{tick, Edge}
@@ -13,9 +13,9 @@ use Rattle.layout.specs.Steps.{WholeRect}
 use Rattle.grid.specs.Memories.{widths, heights}
 use Rattle.grid.specs.declared.Memory.{Memory}
 use Rattle.records.specs.Parts.{letter}
-use Rattle.records.specs.Records.{rest, recordAt, nextAt}
-use Rattle.records.specs.declared.Record.{Record}
-use Rattle.records.specs.declared.Record.the-variants as record-of
+use Rattle.records.specs.Records.{rest}
+use Rattle.records.specs.Headings.{headingIn}
+use Rattle.records.specs.Sheets.{stepsLeft}
 use Rattle.text.specs.Letters as letters
 use Rattle.text.specs.Lines.{line, haveTexts}
 use Rattle.sheet.specs.declared.Laid.{Laid}
@@ -67,7 +67,7 @@ unfoldable pub putMemory : Memory → Put → Put
 putMemory m p = putEntries letters.D 0 (heights m) (putEntries letters.C 0 (widths m) p)
 
 unfoldable pub putAccepted : List ℕ → List ℤ → Rect → Memory → Put → Put
-putAccepted text cells plate m p = putMemory m (putLine letters.P (edges (inTicks tick plate)) (putWidgets 512 1 0 text cells p))
+putAccepted text cells plate m p = putMemory m (putLine letters.P (edges (inTicks tick plate)) (putWidgets (stepsLeft text) (headingIn text .records + 1) 0 (drop (headingIn text .next) text) cells p))
 
 -- lengths that are whole ticks
 pub data Whole : List Float → Type 0 where
@@ -79,16 +79,6 @@ pub record WholeMemory (m : Memory) : Type 0 where
   pub rows : m .rows ≤ 128
   pub widths : Whole (widths m)
   pub heights : Whole (heights m)
-
--- whether the second record is a G
-unfoldable pub isGrid : Record → Bool
-isGrid (record-of.Heading h) = false
-isGrid (record-of.Grid g) = true
-isGrid (record-of.Step st) = false
-isGrid record-of.Wrong = false
-
-unfoldable pub hasGrid : List ℕ → Bool
-hasGrid text = isGrid (recordAt text (nextAt text 0))
 
 -- ---- a pass
 unfoldable pub isAccepted : Laid → Bool

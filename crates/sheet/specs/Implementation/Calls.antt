@@ -74,7 +74,5 @@ stepMoved p sp RowEnd = calledBy (checkedEndRow p sp)
 
 -- a sheet that was checked has nothing but steps here
 unfoldable pub recordMoved : Placer → Vec2 → Record → Moved
-recordMoved p sp (record-of.Heading h) = calledBy (record { number = number.malformed; placer = p })
-recordMoved p sp (record-of.Grid g) = calledBy (record { number = number.malformed; placer = p })
 recordMoved p sp (record-of.Step st) = stepMoved p sp st
 recordMoved p sp record-of.Wrong = calledBy (record { number = number.malformed; placer = p })

@@ -1,22 +1,34 @@
--- A run over the records of a text, with a slice, as the code walks it: from the front of the text on, record by record.
-use Prim.Native.Nat.{ℕ, zero, suc, _+_, _*_}
-use mathlib.Core.Bool.{Bool, true, false, cond}
+-- A run over the records of a text as the code keeps it: the arrays lent, the rectangles in the slice.
+use Prim.Native.Nat.{ℕ, _+_, _-_, _*_, _≤_}
+use mathlib.Core.Path.{_≡_}
+use mathlib.Core.Bool.{Bool, cond}
 use mathlib.Core.List.{List, [], _∷_, _++_}
 use lib.IntN.{ℤ}
-use lib.Dec.{eqb, ltb}
+use lib.Dec.{ltb}
+use lib.ListN.{length, drop}
 use lib.Seq.{sets}
 use lib.Ieee.{Float}
 use Rattle.emath.specs.Steps.{tick}
 use Rattle.emath.specs.declared.Rect.{Rect}
 use Rattle.emath.specs.declared.Vec2.{Vec2}
+use Rattle.grid.specs.declared.Memory.{Memory}
 use Rattle.placer.specs.Implementation.Lent.{placerOf}
 use Rattle.placer.specs.declared.Placer.{Placer}
 use Rattle.placer.specs.declared.BarePlacer.{BarePlacer}
-use Rattle.records.specs.Records.{recordOf, rest}
+use Rattle.records.specs.Sheets.{mostRecords, recordsFrom, widgets, checked}
+use Rattle.records.specs.Headings.{headingIn}
+use Rattle.records.specs.Implementation.Keeping.{Kept}
+use Rattle.records.specs.declared.Heading.{Heading}
+use Rattle.records.specs.declared.Step.{Step}
+use Rattle.records.specs.declared.Record.{Record}
+use Rattle.records.specs.declared.Record.the-variants as record-of
+use Rattle.records.specs.declared.Checked.the-variants as checked-of
 use Rattle.sheet.specs.declared.SpotRun.{SpotRun}
+use Rattle.sheet.specs.declared.Passed.{Passed}
+use Rattle.sheet.specs.Pass.{Sheet, Cell, Ran, runFrom, outcomeOf}
+use Rattle.sheet.specs.Texts.{stepsOf}
 use Rattle.sheet.specs.Ticks.{inTicks}
-use Rattle.sheet.specs.Slices.{edges}
-use Rattle.sheet.specs.Implementation.Calls.{recordMoved}
+use Rattle.sheet.specs.Slices.{edges, written, passedOf}
 
 abbrev pub eightOf : Rect → Rect → List ℤ
 eightOf frame widget = edges (inTicks tick frame) ++ edges (inTicks tick widget)
@@ -34,23 +46,43 @@ pub record Run : Type 0 where
 abbrev pub runOf : BarePlacer → SpotRun → List Float → List Float → List Float → List Float → Run
 runOf p r pw ph ws hs = record { number = r .number; at = r .at; placer = placerOf p (r .spot) pw ph ws hs }
 
-pub record Walk : Type 0 where
-  pub run : Run
-  pub slice : List ℤ
+-- the rule's run, with the rectangles cs
+abbrev pub ranOf : List Cell → Run → Ran
+ranOf cs r = record { number = r .number; at = r .at; cells = cs; placer = r .placer }
 
-abbrev pub pick : Bool → Walk → Walk → Walk
-pick true a b = a
-pick false a b = b
+-- a run over some steps, from record n on, and the slice then
+pub record Walked (sp : Vec2) (n : ℕ) (p : Placer) (steps : List Step) (out : List ℤ) (r : Run) (exit : List ℤ) : Type 0 where
+  pub run : ranOf (runFrom tick sp n p steps .cells) r ≡ runFrom tick sp n p steps
+  pub slice : exit ≡ sets out 0 (written (runFrom tick sp n p steps .cells))
 
-abbrev pub done : Placer → List ℤ → Walk
-done p out = record { run = record { number = 0; at = 0; placer = p }; slice = out }
+-- an answer, and the slice, that are those of a run
+pub record Answers (grid : Bool) (m : Memory) (r : Ran) (out : List ℤ) (p : Passed) (exit : List ℤ) : Type 0 where
+  pub answer : p ≡ passedOf (outcomeOf grid m r)
+  pub slice : exit ≡ sets out 0 (written (r .cells))
 
--- record n is at the front of the text, w W came before it, and there may be so many records more
-unfoldable pub walked : ℕ → Vec2 → ℕ → Placer → List ℕ → List ℤ → ℕ → Walk
-walked zero sp n p s out w = done p out
-walked (suc left) sp n p [] out w = done p out
-walked (suc left) sp n p (b ∷ s) out w =
-    let m = recordMoved p sp (recordOf (b ∷ s)) in
-    pick (eqb (m .number) 0)
-    (walked left sp (n + 1) (m .placer) (rest (b ∷ s)) (putAt out w (m .placed) (m .frame) (m .widget)) (w + m .placed))
-    (record { run = record { number = m .number; at = n; placer = m .placer }; slice = out })
+-- records that are steps, as a check leaves them
+pub data OnlySteps : List Record → Type 0 where
+  none : OnlySteps []
+  more : {st : Step} {rs : List Record} → OnlySteps rs → OnlySteps (record-of.Step st ∷ rs)
+
+-- the records after a heading
+abbrev pub recordsAfter : Heading → List ℕ → List Record
+recordsAfter h text = recordsFrom (mostRecords - h .records) (drop (h .next) text)
+
+abbrev pub sheetAfter : Heading → List ℕ → Sheet
+sheetAfter h text = record { heading = h; steps = stepsOf (recordsAfter h text) }
+
+-- a text was checked: its steps are steps, the slice has room for the W among them, and what each says is kept
+pub record Room (h : Heading) (text : List ℕ) (room : ℕ) (sizes : List Float) : Type 0 where
+  pub few : h .records ≤ mostRecords
+  pub begins : h .next ≤ length text
+  pub only : OnlySteps (recordsAfter h text)
+  pub fits : 8 * widgets (recordsAfter h text) ≤ room
+  pub places : length sizes ≡ 1026
+  pub kept : Kept (mostRecords - h .records) (drop (h .next) text) sizes (h .records + 1)
+
+pub record Known (text : List ℕ) (room : ℕ) (sizes : List Float) : Type 0 where
+  pub all : ℕ
+  pub widgets : ℕ
+  pub accepted : checked text room ≡ checked-of.Accepted all widgets
+  pub ready : Room (headingIn text) text room sizes

@@ -1,7 +1,7 @@
 //! What the entry points give and write, and the same as the reference has it. A place that a call
 //! leaves alone keeps a number that no case expects.
 
-use super::reference::{Field, Outcome, Record};
+use super::reference::{Field, Heading, Outcome, Record};
 use crate::probe::UNTOUCHED;
 use crate::tally::{Same, Shown};
 
@@ -45,69 +45,107 @@ impl Same for FieldRead {
     }
 }
 
+/// The record at fault; or 0, max_rect's edges, the spacings and the cells, the layout's fields,
+/// whether there is a grid, its columns and start row, the heading's records and where it ends.
+pub struct HeadingRead {
+    pub fault: usize,
+    pub lengths: [f32; 10],
+    pub counts: [usize; 11],
+}
+
+impl HeadingRead {
+    pub const UNTOUCHED: Self = Self {
+        fault: UNTOUCHED_COUNT,
+        lengths: [UNTOUCHED; 10],
+        counts: [UNTOUCHED_COUNT; 11],
+    };
+}
+
+impl From<Result<Heading, usize>> for HeadingRead {
+    fn from(heading: Result<Heading, usize>) -> Self {
+        let h = match heading {
+            Ok(h) => h,
+            Err(fault) => {
+                return Self {
+                    fault,
+                    ..Self::UNTOUCHED
+                };
+            }
+        };
+        let mut read = Self {
+            fault: 0,
+            ..Self::UNTOUCHED
+        };
+        read.lengths[..4].copy_from_slice(&h.max_rect);
+        read.lengths[4..6].copy_from_slice(&h.spacing);
+        read.lengths[6..8].copy_from_slice(&h.min_cell);
+        read.lengths[8..].copy_from_slice(&h.max_cell);
+        read.counts[..6].copy_from_slice(&h.layout);
+        let grid = usize::from(h.grid);
+        read.counts[6..].copy_from_slice(&[grid, h.columns, h.start_row, h.records, h.next]);
+        read
+    }
+}
+
+impl Shown for HeadingRead {
+    fn show(&self) -> String {
+        let lengths = self.lengths.show();
+        format!("fault {}, {lengths}, {:?}", self.fault, self.counts)
+    }
+}
+
+impl Same for HeadingRead {
+    fn same(&self, other: &Self) -> bool {
+        let lengths = self.lengths.same(&other.lengths);
+        lengths && (self.fault, self.counts) == (other.fault, other.counts)
+    }
+}
+
 pub struct RecordRead {
     pub kind: u8,
-    pub lengths: [f32; 6],
-    pub counts: [usize; 6],
+    pub lengths: [f32; 2],
 }
 
 impl RecordRead {
     pub const UNTOUCHED: Self = Self {
         kind: u8::MAX,
-        lengths: [UNTOUCHED; 6],
-        counts: [UNTOUCHED_COUNT; 6],
+        lengths: [UNTOUCHED; 2],
     };
 
-    fn of(kind: u8, lengths: &[f32], counts: &[usize]) -> Self {
+    fn of(kind: u8, lengths: &[f32]) -> Self {
         let mut read = Self::UNTOUCHED;
         read.kind = kind;
         read.lengths[..lengths.len()].copy_from_slice(lengths);
-        read.counts[..counts.len()].copy_from_slice(counts);
         read
     }
 }
 
+/// Where a step may stand, a heading's record is none.
 impl From<Option<Record>> for RecordRead {
     fn from(record: Option<Record>) -> Self {
         match record {
-            None => Self::of(0, &[], &[]),
-            Some(Record::Heading {
-                layout,
-                max_rect,
-                spacing,
-            }) => Self::of(1, &[&max_rect[..], &spacing].concat(), &layout),
-            Some(Record::Grid {
-                min_cell,
-                max_cell,
-                columns,
-                start_row,
-            }) => {
-                let sizes = [min_cell, max_cell].concat();
-                Self::of(2, &sizes, &[columns.unwrap_or(0), start_row])
-            }
-            Some(Record::Widget(size)) => Self::of(3, &size, &[]),
-            Some(Record::Space(amount)) => Self::of(4, &[amount], &[]),
-            Some(Record::RowHeight(height)) => Self::of(5, &[height], &[]),
-            Some(Record::MaxWidth(width)) => Self::of(6, &[width], &[]),
-            Some(Record::MaxHeight(height)) => Self::of(7, &[height], &[]),
-            Some(Record::MinWidth(width)) => Self::of(8, &[width], &[]),
-            Some(Record::MinHeight(height)) => Self::of(9, &[height], &[]),
-            Some(Record::RowEnd) => Self::of(10, &[], &[]),
+            None | Some(Record::Heading { .. } | Record::Grid { .. }) => Self::of(0, &[]),
+            Some(Record::Widget(size)) => Self::of(1, &size),
+            Some(Record::Space(amount)) => Self::of(2, &[amount]),
+            Some(Record::RowHeight(height)) => Self::of(3, &[height]),
+            Some(Record::MaxWidth(width)) => Self::of(4, &[width]),
+            Some(Record::MaxHeight(height)) => Self::of(5, &[height]),
+            Some(Record::MinWidth(width)) => Self::of(6, &[width]),
+            Some(Record::MinHeight(height)) => Self::of(7, &[height]),
+            Some(Record::RowEnd) => Self::of(8, &[]),
         }
     }
 }
 
 impl Shown for RecordRead {
     fn show(&self) -> String {
-        let lengths = self.lengths.show();
-        format!("kind {}, {lengths}, {:?}", self.kind, self.counts)
+        format!("kind {}, {}", self.kind, self.lengths.show())
     }
 }
 
 impl Same for RecordRead {
     fn same(&self, other: &Self) -> bool {
-        let lengths = self.lengths.same(&other.lengths);
-        lengths && (self.kind, self.counts) == (other.kind, other.counts)
+        self.kind == other.kind && self.lengths.same(&other.lengths)
     }
 }
 

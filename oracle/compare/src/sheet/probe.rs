@@ -4,7 +4,7 @@
 #[cfg(feature = "placer")]
 use packing::{Counts, Lengths, Packed};
 
-use super::answers::{Checked, FieldRead, RecordRead, Written};
+use super::answers::{Checked, FieldRead, HeadingRead, RecordRead, Written};
 #[cfg(feature = "placer")]
 use super::driver::{Given, Passed};
 
@@ -15,13 +15,13 @@ pub const LIST_ROOM: usize = 40_802;
 unsafe extern "C" {
     fn field_read(text: *const u8, len: usize, at: usize, limit: u32, value: &mut [i32; 1]) -> u8;
     fn field_write(out: *mut u8, len: usize, at: usize, z: i32) -> u8;
-    fn record_read(
+    fn heading_read(
         text: *const u8,
         len: usize,
-        at: usize,
-        lengths: &mut [f32; 6],
-        counts: &mut [usize; 6],
-    ) -> u8;
+        lengths: &mut [f32; 10],
+        counts: &mut [usize; 11],
+    ) -> usize;
+    fn record_read(text: *const u8, len: usize, at: usize, lengths: &mut [f32; 2]) -> u8;
     fn sheet_check(text: *const u8, len: usize, room: usize, counts: &mut [usize; 2]) -> u8;
     #[cfg(feature = "placer")]
     fn sheet_pass(
@@ -56,10 +56,16 @@ pub fn read_field(text: &[u8], at: usize, limit: u32) -> FieldRead {
     read
 }
 
+pub fn read_heading(text: &[u8]) -> HeadingRead {
+    let mut read = HeadingRead::UNTOUCHED;
+    let (lengths, counts) = (&mut read.lengths, &mut read.counts);
+    read.fault = unsafe { heading_read(text.as_ptr(), text.len(), lengths, counts) };
+    read
+}
+
 pub fn read_record(text: &[u8], at: usize) -> RecordRead {
     let mut read = RecordRead::UNTOUCHED;
-    let (lengths, counts) = (&mut read.lengths, &mut read.counts);
-    read.kind = unsafe { record_read(text.as_ptr(), text.len(), at, lengths, counts) };
+    read.kind = unsafe { record_read(text.as_ptr(), text.len(), at, &mut read.lengths) };
     read
 }
 

@@ -152,6 +152,53 @@ pub fn record_at(text: &[u8], at: usize) -> Option<Record> {
     record(lines(text.get(at..)?).next()?)
 }
 
+/// What comes before the first step; of a sheet without a G the grid's numbers are all zero.
+pub struct Heading {
+    pub layout: [usize; 6],
+    pub max_rect: [f32; 4],
+    pub spacing: [f32; 2],
+    pub grid: bool,
+    pub min_cell: [f32; 2],
+    pub max_cell: [f32; 2],
+    pub columns: usize,
+    pub start_row: usize,
+    pub records: usize,
+    pub next: usize,
+}
+
+/// The heading of a text, or the record that it goes wrong at.
+pub fn heading(text: &[u8]) -> Result<Heading, usize> {
+    let mut lines = lines(text);
+    let first = lines.next().ok_or(1_usize)?;
+    let Some(Record::Heading { layout, max_rect, spacing }) = record(first) else {
+        return Err(1);
+    };
+    let mut heading = Heading {
+        layout,
+        max_rect,
+        spacing,
+        grid: false,
+        min_cell: [0.0; 2],
+        max_cell: [0.0; 2],
+        columns: 0,
+        start_row: 0,
+        records: 1,
+        next: first.len(),
+    };
+    let Some(second) = lines.next().filter(|line| line[0] == b'G') else {
+        return Ok(heading);
+    };
+    let Some(Record::Grid { min_cell, max_cell, columns, start_row }) = record(second) else {
+        return Err(2);
+    };
+    heading.grid = true;
+    (heading.min_cell, heading.max_cell) = (min_cell, max_cell);
+    (heading.columns, heading.start_row) = (columns.unwrap_or(0), start_row);
+    heading.records += 1;
+    heading.next += second.len();
+    Ok(heading)
+}
+
 pub enum Outcome {
     Accepted { records: usize, widgets: usize },
     Refused { number: u8, record: usize },

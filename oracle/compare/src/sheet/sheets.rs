@@ -1,6 +1,6 @@
 //! Whole sheets, well-formed and damaged: what the check makes of each, and every record in it.
 
-use super::answers::{Checked, RecordRead};
+use super::answers::{Checked, HeadingRead, RecordRead};
 use super::counts::Counts;
 use super::damage::damage;
 use super::reference::{self, MOST_RECORDS, PLACES, lines};
@@ -10,11 +10,15 @@ use crate::tally::{Shown, Tally, say};
 
 const SHEETS: &str = "sheet_check";
 const RECORDS: &str = "record_read";
+const HEADINGS: &str = "heading_read";
 
 const THOUSANDS: u64 = 1_200;
 
-/// The kinds of record, as record_read numbers them.
-const RECORD_KINDS: [&str; 11] = ["none", "H", "G", "W", "S", "R", "L", "K", "N", "T", "E"];
+/// The kinds of step, as record_read numbers them.
+const RECORD_KINDS: [&str; 9] = ["none", "W", "S", "R", "L", "K", "N", "T", "E"];
+
+/// The kinds of heading: the record at fault, or none, without a grid and with one.
+const HEADING_KINDS: [&str; 4] = ["H alone", "H and G", "fault at H", "fault at G"];
 
 /// A text, and the places lent or where the record starts.
 struct Case<'a>(&'a [u8], &'a str, usize);
@@ -56,11 +60,36 @@ fn read(t: &mut Tally, text: &[u8], at: usize, kinds: &mut [u64; RECORD_KINDS.le
     t.agree(RECORDS, &Case(text, "at", at), &ours, &theirs);
 }
 
+/// Reads the heading on both sides.
+fn read_heading(t: &mut Tally, text: &[u8], kinds: &mut [u64; HEADING_KINDS.len()]) {
+    let ours = probe::read_heading(text);
+    let heading = reference::heading(text);
+    kinds[match &heading {
+        Ok(heading) => usize::from(heading.grid),
+        Err(fault) => 1 + fault,
+    }] += 1;
+    let theirs = HeadingRead::from(heading);
+    t.agree(HEADINGS, &Case(text, "from", 0), &ours, &theirs);
+}
+
+/// How many there were of each kind, of which none may be lacking.
+fn show_kinds(t: &mut Tally, what: &str, kinds: &[&str], counts: &[u64]) {
+    let shown = kinds.iter().zip(counts);
+    let shown = shown.map(|(words, count)| format!("{words}: {count}"));
+    say!(t, "  {}", shown.collect::<Vec<_>>().join(", "));
+    for (words, &count) in kinds.iter().zip(counts) {
+        if count == 0 {
+            t.lacking(&format!("{what} read as {words}"));
+        }
+    }
+}
+
 pub fn compare(t: &mut Tally) {
     let mut rng = Rng::new(t.seed, SHEETS);
     let mut counts = Counts::new();
     let mut kinds = [0; RECORD_KINDS.len()];
-    let (mut sheets_differ, mut records_differ) = (0, 0);
+    let mut headings = [0; HEADING_KINDS.len()];
+    let (mut sheets_differ, mut headings_differ, mut records_differ) = (0, 0, 0);
     let sheets = THOUSANDS * 1_000 * t.times;
     for _ in 0..sheets {
         let mut drawn = texts::sheet(&mut rng);
@@ -82,6 +111,10 @@ pub fn compare(t: &mut Tally) {
         sheets_differ += t.differences - before;
 
         let before = t.differences;
+        read_heading(t, &text, &mut headings);
+        headings_differ += t.differences - before;
+
+        let before = t.differences;
         let mut at = 0;
         for line in lines(&text) {
             read(t, &text, at, &mut kinds);
@@ -95,15 +128,10 @@ pub fn compare(t: &mut Tally) {
     }
     say!(t, "{SHEETS}: {sheets} cases, {sheets_differ} differ");
     counts.show_numbers(t);
+    say!(t, "{HEADINGS}: {sheets} cases, {headings_differ} differ");
+    show_kinds(t, "a heading", &HEADING_KINDS, &headings);
     let records = kinds.iter().sum::<u64>();
     say!(t, "{RECORDS}: {records} cases, {records_differ} differ");
-    let shown = RECORD_KINDS.iter().zip(kinds);
-    let shown = shown.map(|(words, count)| format!("{words}: {count}"));
-    say!(t, "  {}", shown.collect::<Vec<_>>().join(", "));
-    for (words, count) in RECORD_KINDS.iter().zip(kinds) {
-        if count == 0 {
-            t.lacking(&format!("a record read as {words}"));
-        }
-    }
+    show_kinds(t, "a record", &RECORD_KINDS, &kinds);
     counts.show_damage(t);
 }

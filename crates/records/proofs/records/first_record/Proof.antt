@@ -1,28 +1,20 @@
 use borrow.Author.Tests.{ne-eqb}
-use borrow.Author.Needs.{needs}
 use Rattle.records.specs.Records.{recordOf}
+use borrow.Author.Needs.{needs}
 use Rattle.records.proofs.records.first_record.Statement.{statement}
 use Rattle.records.proofs.records.first_record.Tie as tie
 
 returns : tie.Need-returns
 unfolding recordOf
-returns c = rw (c .heading .ensures, ← c .before .before .byte .ensures, c .before .match .keys1)
+returns c = rw (c .widget .ensures, ← c .before .before .byte .ensures, c .before .match .keys1)
 
 returns-2 : tie.Need-returns-2
 unfolding recordOf
-returns-2 c = rw (c .grid .ensures, ← c .before .before .byte .ensures, c .before .match .keys2)
+returns-2 c = rw (c .step-record .ensures, ← c .before .before .byte .ensures, c .before .match .keys2)
 
 returns-3 : tie.Need-returns-3
 unfolding recordOf
-returns-3 c = rw (c .widget .ensures, ← c .before .before .byte .ensures, c .before .match .keys3)
-
-returns-4 : tie.Need-returns-4
-unfolding recordOf
-returns-4 c = rw (c .step-record .ensures, ← c .before .before .byte .ensures, c .before .match .keys4)
-
-returns-5 : tie.Need-returns-5
-unfolding recordOf
-returns-5 c = rw (c .single .ensures, ← c .before .before .byte .ensures, ne-eqb _ _ (c .before .match .rest .0 .0 .0 .1), ne-eqb _ _ (c .before .match .rest .0 .0 .1), ne-eqb _ _ (c .before .match .rest .0 .1), ne-eqb _ _ (c .before .match .rest .1))
+returns-3 c = rw (c .single .ensures, ← c .before .before .byte .ensures, ne-eqb _ _ (c .before .match .rest .0 .1), ne-eqb _ _ (c .before .match .rest .1))
 
 pub first-record-spec : {M : Type 1} → statement M
-first-record-spec = tie.close (tie.spec (λ c κs. search needs) (λ c κs. search needs) (λ c κs. search needs) (λ c κs. search needs) (λ c κs. search needs) (λ c κs. search needs) returns returns-2 returns-3 returns-4 returns-5)
+first-record-spec = tie.close (tie.spec (λ c κs. search needs) (λ c κs. search needs) (λ c κs. search needs) (λ c κs. search needs) returns returns-2 returns-3)

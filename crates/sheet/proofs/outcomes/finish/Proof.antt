@@ -8,15 +8,15 @@ use Rattle.sheet.proofs.outcomes.finish.Tie as tie
 
 returns : tie.Need-returns
 unfolding outcomeOf
-returns c = rw (c .refused .ensures, ne-eqb _ _ (c .before .if1 .taken))
+returns c cs = rw (c .refused .ensures, ne-eqb _ _ (c .before .if1 .taken))
 
 returns-2 : tie.Need-returns-2
 unfolding outcomeOf laidOf plateOf remembered
-returns-2 c = rw (eq-eqb _ _ (c .before .before .before .before .before .before .before .if1 .left), c .before .before .before .if2 .taken, c .before .save-grid .ensures, c .before .before .whole .ensures)
+returns-2 c cs = rw (eq-eqb _ _ (c .before .before .before .before .before .before .before .if1 .left), c .before .before .before .if2 .taken, c .before .save-grid .ensures, c .before .before .whole .ensures)
 
 returns-3 : tie.Need-returns-3
 unfolding outcomeOf laidOf plateOf remembered
-returns-3 c = rw (eq-eqb _ _ (c .before .before .before .before .if1 .left), c .if2 .left)
+returns-3 c cs = rw (eq-eqb _ _ (c .before .before .before .before .if1 .left), c .if2 .left)
 
 pub finish-spec : {M : Type 1} → statement M
 finish-spec = tie.close (tie.spec (λ c κs. search needs) returns (λ c κs. search needs) (λ c κs. search needs) returns-2 returns-3)

@@ -9,19 +9,11 @@ step-moved-requires c κs = c .before .before .before .before .before .before .b
 
 returns : tie.Need-returns
 unfolding recordMoved
-returns c = rw (c .before .enum-told .given .1) (c .moved .ensures _ _ _ _ _)
+returns c = rw (c .before .before .before .before .before .before .before .before .r .given .1) (c .before .before .before .before .step-moved .ensures)
 
 returns-2 : tie.Need-returns-2
 unfolding recordMoved
-returns-2 c = rw (c .before .enum-told2 .given .1) (c .moved2 .ensures _ _ _ _ _)
-
-returns-3 : tie.Need-returns-3
-unfolding recordMoved
-returns-3 c = rw (c .before .before .before .before .before .before .before .before .r .given .1) (c .before .before .before .before .step-moved .ensures)
-
-returns-4 : tie.Need-returns-4
-unfolding recordMoved
-returns-4 c = rw (c .before .enum-told3 .given .1) (c .moved3 .ensures _ _ _ _ _)
+returns-2 c = rw (c .before .enum-told .given .1) (c .moved .ensures _ _ _ _ _)
 
 pub record-moved-spec : {M : Type 1} → statement M
-record-moved-spec = tie.close (tie.spec (λ c. search needs) (λ c κs. search needs) (λ c. search needs) (λ c κs. search needs) (λ c. search needs) step-moved-requires (λ c. search needs) (λ c κs. search needs) returns returns-2 (λ c. search needs) (λ c. search needs) returns-3 returns-4)
+record-moved-spec = tie.close (tie.spec (λ c. search needs) step-moved-requires (λ c. search needs) (λ c κs. search needs) (λ c. search needs) (λ c. search needs) returns returns-2)

@@ -10,7 +10,8 @@ use Rattle.records.specs.Implementation.Keeping.{Kept}
 use Rattle.records.proofs.Places.{next-within}
 use Rattle.records.proofs.Keeping.{kept-here, kept-next}
 use Rattle.sheet.specs.Implementation.Calls.{recordMoved, Ready}
-use Rattle.sheet.specs.Implementation.Walks.{walked}
+use Rattle.sheet.proofs.Walks.{walked}
+use Rattle.sheet.proofs.WalkedRuns.{as-walked}
 use Rattle.sheet.proofs.Walking.{walk-ends, walk-is-full, walk-stops, walk-goes-on, room-left, moved-few, moved-in-ticks, moved-unfaulted}
 use borrow.Author.Needs.{needs}
 use Rattle.sheet.proofs.walk.run.Statement.{statement}
@@ -33,13 +34,13 @@ returns c =
     let pw = a .prev-widths .now in
     let ph = a .prev-heights .now in
     let p = placerOf (a .placer) (l .s) pw ph (l .widths) (l .heights) in
-    walk-ends (a .text .now) (a .spacing) (l .left) (l .n) (l .at) (l .w) p (l .out) _ (l .inv .5) (c .if1 .taken)
+    as-walked _ _ _ _ _ _ _ _ (c .before .before .before .before .before .before .before .before .before .pre .1 .1 .0) (walk-ends (a .text .now) (a .spacing) (l .left) (l .n) (l .at) (l .w) p (l .out) _ (l .inv .5) (c .if1 .taken))
 
 kept-record-requires : tie.Need-kept-record-requires Inv-loop μ-loop
 kept-record-requires c κs =
     let a = c .before .before .before .before .before .before .before .before .before .before .before in
     let l = c .before .before .before .before .loop in
-    ((omega (arith, l .inv .2, c .before .before .before .loop-test .taken, a .pre .1 .0 .1), a .pre .1 .1 .1), kept-here (a .args .text .now) (a .args .sizes .now) (l .at) (l .n) (l .left) (l .inv .6) (c .before .before .before .loop-test .taken) (c .before .before .if1 .left))
+    ((omega (arith, l .inv .2, c .before .before .before .loop-test .taken, a .pre .1 .0 .1), a .pre .1 .1 .2), kept-here (a .args .text .now) (a .args .sizes .now) (l .at) (l .n) (l .left) (l .inv .6) (c .before .before .before .loop-test .taken) (c .before .before .if1 .left))
 
 record-moved-requires : tie.Need-record-moved-requires Inv-loop μ-loop
 record-moved-requires c κs = c .before .before .before .before .before .loop .inv .4
@@ -58,7 +59,7 @@ returns-2 c =
     let ph = a .prev-heights .now in
     let p = placerOf (a .placer) (l .s) pw ph (l .widths) (l .heights) in
     let em = c .before .before .before .before .before .before .record-moved .ensures ∙ ap (λ (x : Record). recordMoved p (a .spacing) x) (c .before .before .before .before .before .before .before .kept-record .ensures) in
-    walk-stops (a .text .now) (a .spacing) (l .left) (l .n) (l .at) (l .w) p (l .out) _ (l .inv .5) (c .before .before .before .before .before .before .before .before .before .before .before .loop-test .taken) (c .before .before .before .before .before .before .before .before .before .before .if1 .left) _ em (c .if2 .taken)
+    as-walked _ _ _ _ _ _ _ _ (c .before .before .before .before .before .before .before .before .before .before .before .before .before .before .before .before .before .before .before .pre .1 .1 .0) (walk-stops (a .text .now) (a .spacing) (l .left) (l .n) (l .at) (l .w) p (l .out) _ (l .inv .5) (c .before .before .before .before .before .before .before .before .before .before .before .loop-test .taken) (c .before .before .before .before .before .before .before .before .before .before .if1 .left) _ em (c .if2 .taken))
 
 put-requires : tie.Need-put-requires Inv-loop μ-loop
 put-requires c κs =
@@ -101,7 +102,7 @@ returns-3 c =
     let pw = a .prev-widths .now in
     let ph = a .prev-heights .now in
     let p = placerOf (a .placer) (l .s) pw ph (l .widths) (l .heights) in
-    walk-is-full (a .text .now) (a .spacing) (l .left) (l .n) (l .at) (l .w) p (l .out) _ (l .inv .5) (c .loop-test .left)
+    as-walked _ _ _ _ _ _ _ _ (c .before .before .before .before .before .before .before .before .pre .1 .1 .0) (walk-is-full (a .text .now) (a .spacing) (l .left) (l .n) (l .at) (l .w) p (l .out) _ (l .inv .5) (c .loop-test .left))
 
 pub run-spec : {M : Type 1} → statement M
 run-spec = tie.close (tie.spec Inv-loop μ-loop (λ c. search needs) (λ c. search needs) (λ c. search needs) (λ c. search needs) returns kept-record-requires record-moved-requires same-length-4 same-length-5 (λ c. search needs) returns-2 put-requires (λ c κs. search needs) add-n sub-left loop-less loop-again (λ c. search needs) (λ c. search needs) (λ c. search needs) returns-3)

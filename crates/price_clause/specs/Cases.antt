@@ -1,31 +1,36 @@
--- Document 01, "Cases marked P are proved": one table, of what the rules give and what the paper says.
-use Prim.Native.Nat.{ℕ, zero, suc}
+-- Document 01, "Cases marked P are proved": one table, of what a text is answered with and what the paper says.
+use Prim.Native.Nat.{ℕ, zero, suc, _*_}
 use mathlib.Core.Bool.{Bool, true, false, _&&_}
 use lib.Dec.{eqb}
 use mathlib.Core.List.{List, [], _∷_, _++_, map}
 use lib.IntN.{ℤ, pos, negsuc}
+use lib.ListN.{length, replicate}
+use lib.Ieee.{Float}
 use Rattle.emath.specs.Numbers as number
 use Rattle.emath.specs.Rectangles.{roundUi, alignOn}
 use Rattle.emath.specs.Steps.{tick, val}
 use Rattle.emath.specs.declared.Align.the-variants.{Center}
-use Rattle.grid.specs.Memories.{emptyMemory, widths, heights}
+use Rattle.grid.specs.Memories.{widths, heights}
 use Rattle.records.specs.Writers.{H, G, W, E}
-use Rattle.sheet.specs.Pass.{Cell, Outcome}
-use Rattle.sheet.specs.Passes.{passes}
-use Rattle.sheet.specs.Texts.{sheetIn}
+use Rattle.records.specs.Sheets.{records, widgets}
+use Rattle.sheet.specs.Slices.{LaidOut, edges}
 use Rattle.sheet.specs.Ticks.{Ticks, ticks, inTicks}
+use Rattle.listing.specs.Lists.{settled, listOf}
+use Rattle.drawing.specs.Pieces.{ascii}
 
--- ---- what a case tells of a pass, in whole numbers: the refusal's number and record (0: none), the plate, each W's frame and widget, the
--- columns and the rows, in ticks
-abbrev pub edges : Ticks → List ℤ
-edges t = t .left ∷ t .top ∷ t .right ∷ t .bottom ∷ []
+-- ---- what a text is answered with, as the pass that is printed leaves it over a slice of eight places for each W, in whole numbers: the
+-- refusal's number and record (0: none), the plate's edges, the slice; how many columns there are, and their widths; how many rows, and their
+-- heights; all in ticks
+abbrev pub answered : List ℕ → LaidOut
+answered text = settled text (replicate (8 * widgets (records text)) (pos 0))
 
-unfoldable pub rectangles : List Cell → List ℤ
-rectangles [] = []
-rectangles (c ∷ rest) = edges (inTicks tick (c .frame)) ++ (edges (inTicks tick (c .widget)) ++ rectangles rest)
+abbrev pub counted : List Float → List ℤ
+counted xs = pos (length xs) ∷ map (ticks tick) xs
 
-abbrev pub told : Outcome → List ℤ
-told o = pos (o .number) ∷ pos (o .at) ∷ (edges (inTicks tick (o .plate)) ++ (rectangles (o .cells) ++ (map (ticks tick) (widths (o .memory)) ++ map (ticks tick) (heights (o .memory)))))
+abbrev pub told : LaidOut → List ℤ
+told l =
+    pos (l .outcome .number) ∷ pos (l .outcome .at)
+    ∷ (edges (inTicks tick (l .outcome .plate)) ++ (l .slice ++ (counted (widths (l .outcome .memory)) ++ counted (heights (l .outcome .memory)))))
 
 pub record Case : Type 0 where
   pub found : List ℤ
@@ -67,38 +72,57 @@ twiceEach [] = []
 twiceEach (t ∷ rest) = edges t ++ (edges t ++ twiceEach rest)
 
 abbrev pub without-grid : List Ticks → Ticks → List ℤ
-without-grid frames plate = pos 0 ∷ pos 0 ∷ (edges plate ++ twiceEach frames)
+without-grid frames plate = pos 0 ∷ pos 0 ∷ (edges plate ++ (twiceEach frames ++ (pos 0 ∷ pos 0 ∷ [])))
 
--- pass n of a text, from 0
-abbrev pub pass-of : List ℕ → ℕ → List ℤ
-pass-of text n = told (passes tick (sheetIn text) emptyMemory n)
+abbrev pub answer-to : List ℕ → List ℤ
+answer-to text = told (answered text)
 
 -- a refusal's number and record
 abbrev pub refusal-of : List ℕ → List ℤ
-refusal-of text = (pos (passes tick (sheetIn text) emptyMemory 0 .number) ∷ pos (passes tick (sheetIn text) emptyMemory 0 .at) ∷ [])
+refusal-of text = (pos (answered text .outcome .number) ∷ pos (answered text .outcome .at) ∷ [])
 
 abbrev pub refused : ℕ → ℕ → List ℤ
 refused number at = (pos number ∷ pos at ∷ [])
 
 -- ---- the table
 -- "the strip above"
+abbrev pub strip : List ℕ
+strip = heading (pos 0) (pos 0) (pos 1) (pos 6400) (pos 3200) (pos 256) (pos 128) ++ (W (pos 640) (pos 320) ++ W (pos 320) (pos 480))
+
 abbrev pub the-strip : Case
 the-strip = record {
-  found = pass-of (heading (pos 0) (pos 0) (pos 1) (pos 6400) (pos 3200) (pos 256) (pos 128) ++ (W (pos 640) (pos 320) ++ W (pos 320) (pos 480))) 0;
+  found = answer-to strip;
   expected = without-grid (box (pos 0) (pos 0) (pos 640) (pos 320) ∷ box (pos 896) (pos 0) (pos 1216) (pos 480) ∷ []) (box (pos 0) (pos 0) (pos 1216) (pos 480));
+}
+
+-- and the bytes of its text, and of its list
+abbrev pub the-strip-written : Case
+the-strip-written = record {
+  found = map (λ (b : ℕ). pos b) strip;
+  expected = map (λ (b : ℕ). pos b) (
+    ascii "H       0       0       1       0       0       0       0       0    6400    3200     256     128\nW     640     320\nW     320     480\n"
+  );
+}
+
+abbrev pub the-strip-printed : Case
+the-strip-printed = record {
+  found = map (λ (b : ℕ). pos b) (listOf strip);
+  expected = map (λ (b : ℕ). pos b) (
+    ascii "W       2       0       0     640     320       0       0     640     320\nW       3     896       0    1216     480     896       0    1216     480\nP       0       0    1216     480\n"
+  );
 }
 
 -- "the same H with G 320 160, blanks, start 0; then W 640 160, W 100 161, E, W 200 50: columns 640, 320; rows 161, 160; widgets 0 1 640 161,
 -- 896 0 996 161, 0 344 200 394; plate 0 0 1216 449"
 abbrev pub the-grid : Case
 the-grid = record {
-  found = pass-of
-      (heading (pos 0) (pos 0) (pos 1) (pos 6400) (pos 3200) (pos 256) (pos 128) ++ (grid (pos 320) (pos 160) ++ (W (pos 640) (pos 160) ++ (W (pos 100) (pos 161) ++ (E ++ W (pos 200) (pos 50)))))) 1;
+  found = answer-to
+      (heading (pos 0) (pos 0) (pos 1) (pos 6400) (pos 3200) (pos 256) (pos 128) ++ (grid (pos 320) (pos 160) ++ (W (pos 640) (pos 160) ++ (W (pos 100) (pos 161) ++ (E ++ W (pos 200) (pos 50))))));
   expected = pos 0 ∷ pos 0 ∷ (edges (box (pos 0) (pos 0) (pos 1216) (pos 449))
       ++ (edges (box (pos 0) (pos 0) (pos 640) (pos 161)) ++ (edges (box (pos 0) (pos 1) (pos 640) (pos 161))
       ++ (edges (box (pos 896) (pos 0) (pos 1216) (pos 161)) ++ (edges (box (pos 896) (pos 0) (pos 996) (pos 161))
       ++ (edges (box (pos 0) (pos 289) (pos 640) (pos 449)) ++ (edges (box (pos 0) (pos 344) (pos 200) (pos 394))
-      ++ (pos 640 ∷ pos 320 ∷ pos 161 ∷ pos 160 ∷ []))))))));
+      ++ (pos 2 ∷ pos 640 ∷ pos 320 ∷ pos 2 ∷ pos 161 ∷ pos 160 ∷ []))))))));
 }
 
 -- "one tick centred between -1 and 1 becomes -1 to 1"
@@ -118,21 +142,21 @@ minus-half-a-tick = record { found = (ticks tick (roundUi tick (val 6 (negsuc 0)
 -- "wrap, top-aligned, max_rect 0 0 640 3200, spacing 0, W 320 100 twice: second frame 320 0 640 100"
 abbrev pub twice : Case
 twice = record {
-  found = pass-of (heading (pos 0) (pos 1) (pos 0) (pos 640) (pos 3200) (pos 0) (pos 0) ++ (W (pos 320) (pos 100) ++ W (pos 320) (pos 100))) 0;
+  found = answer-to (heading (pos 0) (pos 1) (pos 0) (pos 640) (pos 3200) (pos 0) (pos 0) ++ (W (pos 320) (pos 100) ++ W (pos 320) (pos 100)));
   expected = without-grid (box (pos 0) (pos 0) (pos 320) (pos 100) ∷ box (pos 320) (pos 0) (pos 640) (pos 100) ∷ []) (box (pos 0) (pos 0) (pos 640) (pos 100));
 }
 
 -- "second W 321 100: 0 100 321 200"
 abbrev pub one-more : Case
 one-more = record {
-  found = pass-of (heading (pos 0) (pos 1) (pos 0) (pos 640) (pos 3200) (pos 0) (pos 0) ++ (W (pos 320) (pos 100) ++ W (pos 321) (pos 100))) 0;
+  found = answer-to (heading (pos 0) (pos 1) (pos 0) (pos 640) (pos 3200) (pos 0) (pos 0) ++ (W (pos 320) (pos 100) ++ W (pos 321) (pos 100)));
   expected = without-grid (box (pos 0) (pos 0) (pos 320) (pos 100) ∷ box (pos 0) (pos 100) (pos 321) (pos 200) ∷ []) (box (pos 0) (pos 0) (pos 321) (pos 200));
 }
 
 -- "W 2097152 0 at left 0 with spacing 0 passes"
 abbrev pub at-the-limit : Case
 at-the-limit = record {
-  found = pass-of (heading (pos 0) (pos 0) (pos 0) (pos 0) (pos 0) (pos 0) (pos 0) ++ W (pos 2097152) (pos 0)) 0;
+  found = answer-to (heading (pos 0) (pos 0) (pos 0) (pos 0) (pos 0) (pos 0) (pos 0) ++ W (pos 2097152) (pos 0));
   expected = without-grid (box (pos 0) (pos 0) (pos 2097152) (pos 0) ∷ []) (box (pos 0) (pos 0) (pos 2097152) (pos 0));
 }
 
@@ -162,5 +186,5 @@ allHold (c ∷ rest) = sameAll (c .found) (c .expected) && allHold rest
 
 abbrev pub table : List Case
 table =
-    the-strip ∷ the-grid ∷ one-tick-centred ∷ half-a-tick ∷ minus-half-a-tick ∷ twice ∷ one-more ∷ at-the-limit ∷ beyond-the-limit ∷ grid-from-the-right
+    the-strip ∷ the-strip-written ∷ the-strip-printed ∷ the-grid ∷ one-tick-centred ∷ half-a-tick ∷ minus-half-a-tick ∷ twice ∷ one-more ∷ at-the-limit ∷ beyond-the-limit ∷ grid-from-the-right
     ∷ one-cell-too-many ∷ []

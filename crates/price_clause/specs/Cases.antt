@@ -100,16 +100,16 @@ abbrev pub the-strip-written : Case
 the-strip-written = record {
   found = map (λ (b : ℕ). pos b) strip;
   expected = map (λ (b : ℕ). pos b) (
-    ascii "H       0       0       1       0       0       0       0       0    6400    3200     256     128\nW     640     320\nW     320     480\n"
-  );
+      ascii "H       0       0       1       0       0       0       0       0    6400    3200     256     128\nW     640     320\nW     320     480\n"
+      );
 }
 
 abbrev pub the-strip-printed : Case
 the-strip-printed = record {
   found = map (λ (b : ℕ). pos b) (listOf strip);
   expected = map (λ (b : ℕ). pos b) (
-    ascii "W       2       0       0     640     320       0       0     640     320\nW       3     896       0    1216     480     896       0    1216     480\nP       0       0    1216     480\n"
-  );
+      ascii "W       2       0       0     640     320       0       0     640     320\nW       3     896       0    1216     480     896       0    1216     480\nP       0       0    1216     480\n"
+      );
 }
 
 -- "the same H with G 320 160, blanks, start 0; then W 640 160, W 100 161, E, W 200 50: columns 640, 320; rows 161, 160; widgets 0 1 640 161,

@@ -1,6 +1,4 @@
--- The price clause of grids: of two grid sheets that hold only controls and row ends, without negative spacing, alike but for larger controls
--- in the second, both accepted in two passes, no frame of the second sheet's second pass starts further left or higher or is narrower or less
--- tall, and its plate is at least as wide and as tall. Assumes nothing.
+-- The price clause of grids (`grids` of PriceClause), from both sheets' second passes. Assumes nothing.
 use Prim.Native.Nat.{ℕ, _+_, _≤_}
 use mathlib.Core.Path.{_≡_, refl, ap, sym, _∙_, subst}
 use mathlib.Core.Bool.{Bool, true, false}

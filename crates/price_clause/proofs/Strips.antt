@@ -1,6 +1,4 @@
--- The price clause of strips: of two accepted strips without negative spacing that are alike in everything but their controls' sizes, each
--- control of the second at least as large as the first's, no frame of the second starts further left or higher or is narrower or less tall,
--- and its plate is at least as wide and as tall. For steps of 1 to 1/64 point, whatever memory and sizing flag. Assumes nothing.
+-- The price clause of strips (`strips` of PriceClause): for steps of 1 to 1/64 point, whatever memory and sizing flag. Assumes nothing.
 use mathlib.Core.Path.{_≡_, refl, sym, ap, _∙_}
 use mathlib.Core.Bool.{Bool, true}
 use mathlib.Core.List.{List, [], _∷_, Forall₂, Forall₂·nil, Forall₂·cons}

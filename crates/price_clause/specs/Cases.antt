@@ -1,4 +1,4 @@
--- Document 01, "Cases marked P are proved": one table, of what a text is answered with and what the paper says.
+-- The cases that document 01 marks P: one table, of what a text is answered with and what the paper says.
 use Prim.Native.Nat.{ℕ, zero, suc, _*_}
 use mathlib.Core.Bool.{Bool, true, false, _&&_}
 use lib.Dec.{eqb}
@@ -85,7 +85,7 @@ abbrev pub refused : ℕ → ℕ → List ℤ
 refused number at = (pos number ∷ pos at ∷ [])
 
 -- ---- the table
--- "the strip above"
+-- the paper's first strip
 abbrev pub strip : List ℕ
 strip = heading (pos 0) (pos 0) (pos 1) (pos 6400) (pos 3200) (pos 256) (pos 128) ++ (W (pos 640) (pos 320) ++ W (pos 320) (pos 480))
 
@@ -112,8 +112,7 @@ the-strip-printed = record {
       );
 }
 
--- "the same H with G 320 160, blanks, start 0; then W 640 160, W 100 161, E, W 200 50: columns 640, 320; rows 161, 160; widgets 0 1 640 161,
--- 896 0 996 161, 0 344 200 394; plate 0 0 1216 449"
+-- a grid under that heading: two controls, a row end, one control
 abbrev pub the-grid : Case
 the-grid = record {
   found = answer-to
@@ -125,49 +124,49 @@ the-grid = record {
       ++ (pos 2 ∷ pos 640 ∷ pos 320 ∷ pos 2 ∷ pos 161 ∷ pos 160 ∷ []))))))));
 }
 
--- "one tick centred between -1 and 1 becomes -1 to 1"
+-- a control of one tick in the middle of two: each half tick rounds away from zero, so it fills them
 abbrev pub one-tick-centred : Case
 one-tick-centred = record {
   found = (ticks tick (roundUi tick (alignOn Center (val tick (negsuc 0)) (val tick (pos 1)) (val tick (pos 1)) .min)) ∷ ticks tick (roundUi tick (alignOn Center (val tick (negsuc 0)) (val tick (pos 1)) (val tick (pos 1)) .max)) ∷ []);
   expected = (negsuc 0 ∷ pos 1 ∷ []);
 }
 
--- "half a tick rounds to 1", "minus half to -1"
+-- half a tick above zero and half a tick below it
 abbrev pub half-a-tick : Case
 half-a-tick = record { found = (ticks tick (roundUi tick (val 6 (pos 1))) ∷ []); expected = (pos 1 ∷ []) }
 
 abbrev pub minus-half-a-tick : Case
 minus-half-a-tick = record { found = (ticks tick (roundUi tick (val 6 (negsuc 0))) ∷ []); expected = (negsuc 0 ∷ []) }
 
--- "wrap, top-aligned, max_rect 0 0 640 3200, spacing 0, W 320 100 twice: second frame 320 0 640 100"
+-- with wrap, two controls that fill the width exactly stay in one row
 abbrev pub twice : Case
 twice = record {
   found = answer-to (heading (pos 0) (pos 1) (pos 0) (pos 640) (pos 3200) (pos 0) (pos 0) ++ (W (pos 320) (pos 100) ++ W (pos 320) (pos 100)));
   expected = without-grid (box (pos 0) (pos 0) (pos 320) (pos 100) ∷ box (pos 320) (pos 0) (pos 640) (pos 100) ∷ []) (box (pos 0) (pos 0) (pos 640) (pos 100));
 }
 
--- "second W 321 100: 0 100 321 200"
+-- with one tick more the second goes to the next
 abbrev pub one-more : Case
 one-more = record {
   found = answer-to (heading (pos 0) (pos 1) (pos 0) (pos 640) (pos 3200) (pos 0) (pos 0) ++ (W (pos 320) (pos 100) ++ W (pos 321) (pos 100)));
   expected = without-grid (box (pos 0) (pos 0) (pos 320) (pos 100) ∷ box (pos 0) (pos 100) (pos 321) (pos 200) ∷ []) (box (pos 0) (pos 0) (pos 321) (pos 200));
 }
 
--- "W 2097152 0 at left 0 with spacing 0 passes"
+-- a control that ends at the last tick of the domain
 abbrev pub at-the-limit : Case
 at-the-limit = record {
   found = answer-to (heading (pos 0) (pos 0) (pos 0) (pos 0) (pos 0) (pos 0) (pos 0) ++ W (pos 2097152) (pos 0));
   expected = without-grid (box (pos 0) (pos 0) (pos 2097152) (pos 0) ∷ []) (box (pos 0) (pos 0) (pos 2097152) (pos 0));
 }
 
--- "with spacing 1 gives 9"
+-- and the cursor one tick beyond it
 abbrev pub beyond-the-limit : Case
 beyond-the-limit = record {
   found = refusal-of (heading (pos 0) (pos 0) (pos 0) (pos 0) (pos 0) (pos 1) (pos 0) ++ W (pos 2097152) (pos 0));
   expected = refused number.outside 2;
 }
 
--- "the examples of 7 and 8": "G after H direction 1", "33rd W in a row"
+-- refusals 7 and 8: a grid that starts at the right, and one cell more than a row has
 abbrev pub grid-from-the-right : Case
 grid-from-the-right = record {
   found = refusal-of (heading (pos 1) (pos 0) (pos 0) (pos 0) (pos 0) (pos 0) (pos 0) ++ grid (pos 0) (pos 0));

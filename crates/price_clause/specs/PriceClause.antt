@@ -18,12 +18,11 @@ use Rattle.pass_laws.specs.Columns.{inColumn, widest}
 use Rattle.pass_laws.specs.Tops.{TopsOnSteps, NoK}
 use Rattle.sheet.specs.Texts.{sheetIn}
 
--- "A pass is accepted exactly if no number of the table below applies to it"
+-- accepted: not one of document 01's refusals, whose numbers start at 1
 abbrev pub Accepted : Outcome → Type 0
 Accepted o = o .number ≡ 0
 
--- "no frame of the second sheet starts further left or higher or is narrower or less tall, and its plate is at least as wide and as tall":
--- "Frames are compared by W number", in ticks
+-- what the clause concludes of two passes, in ticks: each frame beside the one of the same W, and the plates
 pub record NoLess (k : ℕ) (a b : Outcome) : Type 0 where
   pub frames : Forall₂ (λ (c d : Cell). FrameNoLess (inTicks k (c .frame)) (inTicks k (d .frame))) (a .cells) (b .cells)
   pub plate : PlateNoLess (inTicks k (a .plate)) (inTicks k (b .plate))

@@ -13,8 +13,7 @@ use Rattle.sheet.specs.Pass.{Sheet}
 use Rattle.sheet.specs.Ticks.{Ticks, width, height}
 
 -- ---- two sheets
--- "alike in everything but their controls' sizes, each control of the second being at least as wide and as tall as its counterpart", of
--- sheets "that hold only controls and row ends"
+-- the same records one by one, controls and row ends only, no control of the second smaller on either axis than the first's in its place
 pub data Grown : List Step → List Step → Type 0 where
   none : Grown [] []
   control : {w h w′ h′ : Float} {a b : List Step} → le w w′ ≡ true → le h h′ ≡ true → Grown a b → Grown (Widget w h ∷ a) (Widget w′ h′ ∷ b)
@@ -24,26 +23,26 @@ pub record GrownSheet (a b : Sheet) : Type 0 where
   pub heading : a .heading ≡ b .heading
   pub steps : Grown (a .steps) (b .steps)
 
--- "without negative spacing"
+-- neither spacing is below 0
 pub record NoNegativeSpacing (s : Sheet) : Type 0 where
   pub across : le zeroF (s .heading .spacing .x) ≡ true
   pub down : le zeroF (s .heading .spacing .y) ≡ true
 
--- "A strip has no G, and direction, wrap, both justifies and cross align are 0."
+-- document 01's strip: the main align alone is free, every other field of its layout is 0; and there is no G
 pub record Strip (s : Sheet) : Type 0 where
   pub align : Align
   pub is : s .heading .layout ≡ strip align
   pub no-grid : s .heading .«has_grid» ≡ false
 
 -- ---- frames and plates in ticks
--- "no frame of the second sheet starts further left or higher or is narrower or less tall"
+-- a frame b beside a frame a: neither its start nor its extent is less, on either axis
 pub record FrameNoLess (a b : Ticks) : Type 0 where
   pub left : a .left ≤ℤ b .left
   pub top : a .top ≤ℤ b .top
   pub width : width a ≤ℤ width b
   pub height : height a ≤ℤ height b
 
--- "its plate is at least as wide and as tall"
+-- a plate has no place of its own, so of its extent alone
 pub record PlateNoLess (a b : Ticks) : Type 0 where
   pub width : width a ≤ℤ width b
   pub height : height a ≤ℤ height b

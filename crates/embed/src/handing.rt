@@ -12,7 +12,7 @@ ghost use lib.Dec.{leb};
 ghost use lib.ListN.{length, take};
 ghost use lib.Seq.{sets};
 ghost use Rattle.emath.specs.Steps.{tick};
-ghost use Rattle.layout.specs.Steps.{WholeRect};
+ghost use Rattle.region.specs.Steps.{WholeRect};
 ghost use Rattle.sheet.specs.Ticks.{inTicks};
 ghost use Rattle.sheet.specs.Slices.{edges};
 ghost use Rattle.embed.specs.Calls.{memoryOf};

@@ -7,8 +7,8 @@ use native.Mathlib.Omega.{arith}
 use lib.IntN.{_+ℤ_, _-ℤ_}
 use lib.Ieee.{Float, binary32, add, sub}
 use Rattle.emath.proofs.Whole.{Within, sum, diff, whole}
-use Rattle.layout.specs.Steps.{WholeRect}
-use Rattle.layout.proofs.WholeFrames.{rounded-whole}
+use Rattle.region.specs.Steps.{WholeRect}
+use Rattle.region.proofs.WholeRegions.{rounded-whole}
 use Rattle.emath.specs.Rectangles.{maxF, width, fromMinSize, leftCenter, alignedTo, alignOn, alignWithin, roundRect}
 use Rattle.emath.specs.Refusals.{edgesFault, frameFault}
 use Rattle.emath.specs.Steps.{val, Edge}

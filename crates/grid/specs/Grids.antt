@@ -5,13 +5,13 @@ use lib.Dec.{eqb, ltb}
 use lib.Ieee.{Float, binary32, add, sub}
 use Rattle.emath.specs.Rectangles.{zeroF, maxF, atLeast, atMost, width, height, fromMinSize, intersect, leftCenter, alignWithin, roundRect}
 use Rattle.emath.specs.Domain.{finite}
-use Rattle.layout.specs.Rules.{zeroVec}
-use Rattle.layout.specs.Refusals.{zeroRect}
+use Rattle.region.specs.Regions.{zeroVec}
+use Rattle.region.specs.Refusals.{zeroRect}
 use types.Kit.{frame}
 use Rattle.grid.specs.Memories.{emptyMemory, setMinColWidth, setMinRowHeight, colWidth, rowHeight, sameMemory}
 use Rattle.emath.specs.declared.Rect.{Rect}
 use Rattle.emath.specs.declared.Vec2.{Vec2}
-use Rattle.layout.specs.declared.Region.{Region}
+use Rattle.region.specs.declared.Region.{Region}
 use Rattle.grid.specs.declared.Memory.{Memory}
 use Rattle.grid.specs.declared.GridLayout.{GridLayout}
 use Rattle.grid.specs.declared.Moved.{Moved}

@@ -8,16 +8,16 @@ use lib.Ieee.{Float}
 use Rattle.emath.specs.Rectangles.{zeroF}
 use Rattle.emath.specs.Numbers as number
 use Rattle.emath.specs.Refusals.{when, least, orElse, lengthFault, extentFault, pairFault, sizeFault, rectFault, outside}
-use Rattle.layout.specs.Refusals.{cursorFault, regionFault}
-use Rattle.layout.specs.Operations.{placed, framed}
+use Rattle.region.specs.Refusals.{cursorFault, regionFault}
+use Rattle.region.specs.Operations.{placed, framed}
 use Rattle.grid.specs.Memories.{setMinColWidth, setMinRowHeight, colWidth, rowHeight, fullWidth}
 use Rattle.grid.specs.Grids.{knownMemory, newGrid, emptyGrid, prevColWidth, prevRowHeight, availableRect, nextCell, alignSizeWithinRect, advance, endRow, save}
 use Rattle.grid.specs.Refusals.{memoryFault, maxCellFault, gridFault, directionFault, movedFault, memoryAnswer, gridAnswer, movedAnswer, savedAnswer, lengthAnswer, entryAnswer}
 use Rattle.emath.specs.declared.Rect.{Rect}
 use Rattle.emath.specs.declared.Vec2.{Vec2}
-use Rattle.layout.specs.declared.Direction.{Direction}
-use Rattle.layout.specs.declared.Region.{Region}
-use Rattle.layout.specs.declared.RectAnswer.{RectAnswer}
+use Rattle.region.specs.declared.Direction.{Direction}
+use Rattle.region.specs.declared.Region.{Region}
+use Rattle.region.specs.declared.RectAnswer.{RectAnswer}
 use Rattle.grid.specs.declared.Memory.{Memory}
 use Rattle.grid.specs.declared.GridLayout.{GridLayout}
 use Rattle.grid.specs.declared.LengthAnswer.{LengthAnswer}

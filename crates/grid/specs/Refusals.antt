@@ -7,15 +7,15 @@ use lib.Ieee.{Float}
 use Rattle.emath.specs.Rectangles.{zeroF}
 use Rattle.emath.specs.Numbers as number
 use Rattle.emath.specs.Refusals.{when, least, pairFault, sizeFault, edgesFault}
-use Rattle.layout.specs.Rules.{infinity}
-use Rattle.layout.specs.Refusals.{excused, cursorFault}
-use Rattle.layout.specs.Operations.{moved}
+use Rattle.region.specs.Regions.{infinity}
+use Rattle.region.specs.Refusals.{excused, cursorFault}
+use Rattle.region.specs.Operations.{moved}
 use Rattle.grid.specs.Entries.{entriesFault}
 use Rattle.grid.specs.Memories.{widths, heights}
 use Rattle.grid.specs.Grids.{save}
 use Rattle.emath.specs.declared.Vec2.{Vec2}
-use Rattle.layout.specs.declared.Direction.{Direction}
-use Rattle.layout.specs.declared.Direction.the-variants.{LeftToRight, RightToLeft, TopDown, BottomUp}
+use Rattle.region.specs.declared.Direction.{Direction}
+use Rattle.region.specs.declared.Direction.the-variants.{LeftToRight, RightToLeft, TopDown, BottomUp}
 use Rattle.grid.specs.declared.Memory.{Memory}
 use Rattle.grid.specs.declared.GridLayout.{GridLayout}
 use Rattle.grid.specs.declared.Moved.{Moved}

@@ -21,7 +21,7 @@ use emath::domain::is_finite;
 use emath::num::at_least;
 use emath::num::at_most;
 use emath::num::max;
-use layout::Region;
+use region::Region;
 ghost use mathlib.Core.Path.{_≡_};
 ghost use Prim.Native.Nat.{_+_};
 ghost use lib.Dec.{eqb};

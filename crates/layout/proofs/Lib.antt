@@ -1,7 +1,5 @@
 -- The laws, in the order of the argument. Layers above cite them as Rattle.layout.proofs.NAME.
-pub mod Answers
 pub mod WholeFrames
-pub mod WholeRegions
 pub mod WholeCursors
 pub mod Seeds
 pub mod Strips

@@ -20,18 +20,19 @@ use Rattle.emath.proofs.Centres.{centre-edge}
 use Rattle.emath.proofs.Sums.{edge-small}
 use Rattle.emath.proofs.Refusals.{edges-within, rect-none}
 use Rattle.layout.specs.Layouts.{align2}
-use Rattle.layout.specs.Rules.{zeroVec, alignSizeWithinRect, initialCursor, availableRectBeforeWrap, frameRect, nextFrameIgnoreWrap, nextWidgetSpaceIgnoreWrapJustify, nextWidgetPosition, regionFromMaxRect}
-use Rattle.layout.specs.Refusals.{closed, regionFault}
-use Rattle.layout.specs.Steps.{WholeRect, WholeRegion, OnePoint}
-use Rattle.layout.proofs.Answers.{region-none}
-use Rattle.layout.proofs.WholeRegions.{GridRect, GridCursor, far-right, far-left, rect-grid, cursor-whole}
+use Rattle.region.specs.Regions.{zeroVec}
+use Rattle.layout.specs.Rules.{alignSizeWithinRect, initialCursor, availableRectBeforeWrap, frameRect, nextFrameIgnoreWrap, nextWidgetSpaceIgnoreWrapJustify, nextWidgetPosition, regionFromMaxRect}
+use Rattle.region.specs.Refusals.{closed, regionFault}
+use Rattle.region.specs.Steps.{WholeRect, WholeRegion, OnePoint}
+use Rattle.region.proofs.Answers.{region-none}
+use Rattle.region.proofs.WholeRegions.{GridRect, GridCursor, far-right, far-left, rect-grid, cursor-whole}
 use Rattle.emath.specs.declared.Rect.{Rect}
 use Rattle.emath.specs.declared.Align.{Align}
 use Rattle.emath.specs.declared.Align.the-variants.{Min, Center, Max}
-use Rattle.layout.specs.declared.Direction.{Direction}
-use Rattle.layout.specs.declared.Direction.the-variants.{LeftToRight, RightToLeft, TopDown, BottomUp}
+use Rattle.region.specs.declared.Direction.{Direction}
+use Rattle.region.specs.declared.Direction.the-variants.{LeftToRight, RightToLeft, TopDown, BottomUp}
 use Rattle.layout.specs.declared.Layout.{Layout}
-use Rattle.layout.specs.declared.Region.{Region}
+use Rattle.region.specs.declared.Region.{Region}
 
 -- ---- a control of no size, aligned and rounded: both its edges are one
 aligned-same : (k : ℕ) → k ≤ 149 → (a : Align) (low high : Float) → T (fits binary32 low) → T (fits binary32 high) → roundUi k (alignOn a low high zeroF .max) ≡ roundUi k (alignOn a low high zeroF .min)

@@ -16,15 +16,17 @@ use Rattle.emath.proofs.Tests.{bools}
 use Rattle.emath.proofs.Exact.{Small, val-is, ne-is}
 use Rattle.emath.proofs.Values.{val-lt, val-max, val-min, inf-lt, eq-inf, val-add, val-sub, val-div, val-finer, twice}
 use Rattle.emath.proofs.Rounding.{val-whole}
-use Rattle.layout.specs.Layouts.{isHorizontal, isCenter, horizontalAlign, verticalAlign, align2, horizontalJustify, verticalJustify}
-use Rattle.layout.specs.Rules.{infinity, alignSizeWithinRect, uncut, notNegative, notNegativeRect, availableFromCursorMaxRect, availableRectBeforeWrap, fillsWidth, fillsHeight, frameWidth, frameHeight, frameAlign2, movedDown, frameRect, nextFrameIgnoreWrap, wraps, nextFrame, raised, justifyAndAlign, grownAcross, rowFor, pastWidget, advanceAfterRects}
-use Rattle.layout.specs.Steps.{strip}
+use Rattle.region.specs.Directions.{isHorizontal}
+use Rattle.layout.specs.Layouts.{isCenter, horizontalAlign, verticalAlign, align2, horizontalJustify, verticalJustify}
+use Rattle.region.specs.Regions.{infinity}
+use Rattle.layout.specs.Rules.{alignSizeWithinRect, uncut, notNegative, notNegativeRect, availableFromCursorMaxRect, availableRectBeforeWrap, fillsWidth, fillsHeight, frameWidth, frameHeight, frameAlign2, movedDown, frameRect, nextFrameIgnoreWrap, wraps, nextFrame, raised, justifyAndAlign, grownAcross, rowFor, pastWidget, advanceAfterRects}
+use Rattle.layout.specs.Strips.{strip}
 use Rattle.emath.specs.declared.Rect.{Rect}
 use Rattle.emath.specs.declared.Vec2.{Vec2}
-use Rattle.layout.specs.declared.Direction.the-variants.{LeftToRight}
+use Rattle.region.specs.declared.Direction.the-variants.{LeftToRight}
 use Rattle.emath.specs.declared.Align.{Align}
 use Rattle.emath.specs.declared.Align.the-variants.{Min, Center, Max}
-use Rattle.layout.specs.declared.Region.{Region}
+use Rattle.region.specs.declared.Region.{Region}
 
 -- ---- in steps: a rectangle, a size, a range
 abbrev pub rectIn : ℕ → ℤ → ℤ → ℤ → ℤ → Rect

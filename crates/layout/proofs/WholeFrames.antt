@@ -5,31 +5,21 @@ use mathlib.Core.Bool.{cond}
 use Prim.Native.Nat.{ℕ, _≤_}
 use Rattle.emath.specs.Rectangles.{roundRect, alignWithin, width, height}
 use Rattle.emath.specs.Refusals.{edgesFault, frameFault}
-use Rattle.emath.proofs.Refusals.{edges-within, frame-none}
-use Rattle.emath.proofs.Edges.{round-edge}
+use Rattle.emath.proofs.Refusals.{frame-none}
 use Rattle.layout.specs.Layouts.{align2, horizontalJustify, verticalJustify}
 use Rattle.layout.specs.Rules.{alignSizeWithinRect, availableRectBeforeWrap, newRegion, frameRect, nextFrameIgnoreWrap, wraps, nextFrame, raised, justifyAndAlign, nextWidgetSpaceIgnoreWrapJustify}
-use Rattle.layout.specs.Steps.{WholeRect}
+use Rattle.region.specs.Steps.{WholeRect}
+use Rattle.region.proofs.WholeRegions.{rounded-whole}
 use Rattle.emath.specs.declared.Rect.{Rect}
 use Rattle.emath.specs.declared.Vec2.{Vec2}
 use Rattle.layout.specs.declared.Layout.{Layout}
-use Rattle.layout.specs.declared.Region.{Region}
+use Rattle.region.specs.declared.Region.{Region}
 
 module _ (k : ℕ) (l : k ≤ 7) where
-  pub rounded-whole : (r : Rect) → edgesFault (roundRect k r) ≡ 0 → WholeRect k (roundRect k r)
-  rounded-whole r h =
-      let w = edges-within (roundRect k r) h in
-      unfold roundRect in record {
-        left = round-edge k l (r .left) (w .left);
-        top = round-edge k l (r .top) (w .top);
-        right = round-edge k l (r .right) (w .right);
-        bottom = round-edge k l (r .bottom) (w .bottom);
-      }
-
   pub next-frame-ignore-wrap-whole : (L : Layout) (g : Region) (s : Vec2) → frameFault (nextFrameIgnoreWrap k L g s) ≡ 0 → WholeRect k (nextFrameIgnoreWrap k L g s)
   unfolding nextFrameIgnoreWrap
   next-frame-ignore-wrap-whole L g s h =
-      rounded-whole (frameRect L (g .cursor) (availableRectBeforeWrap (L .«main_dir») g) s) (frame-none (roundRect k (frameRect L (g .cursor) (availableRectBeforeWrap (L .«main_dir») g) s)) h)
+      rounded-whole k l (frameRect L (g .cursor) (availableRectBeforeWrap (L .«main_dir») g) s) (frame-none (roundRect k (frameRect L (g .cursor) (availableRectBeforeWrap (L .«main_dir») g) s)) h)
 
   pub next-frame-whole : (L : Layout) (g : Region) (s sp : Vec2) → frameFault (nextFrame k L g s sp) ≡ 0 → WholeRect k (nextFrame k L g s sp)
   unfolding nextFrame
@@ -37,7 +27,7 @@ module _ (k : ℕ) (l : k ≤ 7) where
 
   pub align-size-within-rect-whole : (L : Layout) (s : Vec2) (o : Rect) → edgesFault (alignSizeWithinRect k L s o) ≡ 0 → WholeRect k (alignSizeWithinRect k L s o)
   unfolding alignSizeWithinRect
-  align-size-within-rect-whole L s o h = rounded-whole (alignWithin (align2 L) s o) h
+  align-size-within-rect-whole L s o h = rounded-whole k l (alignWithin (align2 L) s o) h
 
   pub justify-and-align-whole : (L : Layout) (f : Rect) (s : Vec2) → edgesFault (justifyAndAlign k L f s) ≡ 0 → WholeRect k (justifyAndAlign k L f s)
   unfolding justifyAndAlign

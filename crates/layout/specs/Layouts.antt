@@ -3,8 +3,8 @@ use mathlib.Core.Bool.{Bool, true, false, cond, not, _&&_, _||_}
 use Rattle.emath.specs.declared.Align.{Align}
 use Rattle.emath.specs.declared.Align.the-variants.{Min, Center, Max}
 use Rattle.emath.specs.declared.Align2.{Align2}
-use Rattle.layout.specs.declared.Direction.{Direction}
-use Rattle.layout.specs.declared.Direction.the-variants.{LeftToRight, RightToLeft, TopDown, BottomUp}
+use Rattle.region.specs.declared.Direction.{Direction}
+use Rattle.region.specs.declared.Direction.the-variants.{LeftToRight, RightToLeft, TopDown, BottomUp}
 use Rattle.layout.specs.declared.Layout.{Layout}
 
 -- ---- constructors
@@ -33,12 +33,6 @@ abbrev pub withCrossJustify : Layout → Bool → Layout
 withCrossJustify l b = record { «main_dir» = l .«main_dir»; «main_wrap» = l .«main_wrap»; «main_align» = l .«main_align»; «main_justify» = l .«main_justify»; «cross_align» = l .«cross_align»; «cross_justify» = b }
 
 -- ---- inspectors
-unfoldable pub isHorizontal : Direction → Bool
-isHorizontal LeftToRight = true
-isHorizontal RightToLeft = true
-isHorizontal TopDown = false
-isHorizontal BottomUp = false
-
 unfoldable pub isRightToLeft : Direction → Bool
 isRightToLeft LeftToRight = false
 isRightToLeft RightToLeft = true

@@ -3,29 +3,18 @@
 use Prim.Native.Nat.{ℕ}
 use mathlib.Core.List.{[], _∷_}
 use lib.Ieee.{Float}
-use Rattle.emath.specs.Refusals.{least, orElse, lengthFault, pairFault, sizeFault, edgesFault, rectFault, outside, frameFault}
-use Rattle.layout.specs.Rules.{expandToIncludeRect, expandToIncludeX, expandToIncludeY, alignSizeWithinRect, initialCursor, availableFromCursorMaxRect, availableRectBeforeWrap, availableSize, nextFrameIgnoreWrap, nextFrame, justifyAndAlign, nextWidgetSpaceIgnoreWrapJustify, nextWidgetPosition, regionFromMaxRect, advanceCursor, advanceAfterRects, endRow, setRowHeight}
-use Rattle.layout.specs.Refusals.{cursorFault, regionFault, zeroRegion, rectAnswer, posAnswer, sizeAnswer, regionAnswer, cursorAnswer}
+use Rattle.emath.specs.Refusals.{least, orElse, lengthFault, pairFault, sizeFault, rectFault, outside}
+use Rattle.layout.specs.Rules.{alignSizeWithinRect, initialCursor, availableFromCursorMaxRect, availableRectBeforeWrap, availableSize, nextFrameIgnoreWrap, nextFrame, justifyAndAlign, nextWidgetSpaceIgnoreWrapJustify, nextWidgetPosition, regionFromMaxRect, advanceCursor, advanceAfterRects, endRow, setRowHeight}
+use Rattle.region.specs.Refusals.{cursorFault, regionFault, zeroRegion, rectAnswer, posAnswer, sizeAnswer, cursorAnswer}
 use Rattle.emath.specs.declared.Rect.{Rect}
 use Rattle.emath.specs.declared.Vec2.{Vec2}
-use Rattle.layout.specs.declared.Direction.{Direction}
 use Rattle.layout.specs.declared.Layout.{Layout}
-use Rattle.layout.specs.declared.Region.{Region}
-use Rattle.layout.specs.declared.RectAnswer.{RectAnswer}
-use Rattle.layout.specs.declared.PosAnswer.{PosAnswer}
-use Rattle.layout.specs.declared.SizeAnswer.{SizeAnswer}
-use Rattle.layout.specs.declared.RegionAnswer.{RegionAnswer}
-use Rattle.layout.specs.declared.CursorAnswer.{CursorAnswer}
-
--- ---- a rectangle that is not a frame, a frame, a new region
-unfoldable pub placed : ℕ → Rect → RectAnswer
-placed before r = rectAnswer (orElse before (outside (edgesFault r))) r
-
-unfoldable pub framed : ℕ → Rect → RectAnswer
-framed before r = rectAnswer (orElse before (frameFault r)) r
-
-unfoldable pub moved : Direction → ℕ → Region → Region → RegionAnswer
-moved d before given new = regionAnswer (orElse before (outside (regionFault d new))) given new
+use Rattle.region.specs.declared.Region.{Region}
+use Rattle.region.specs.declared.RectAnswer.{RectAnswer}
+use Rattle.region.specs.declared.PosAnswer.{PosAnswer}
+use Rattle.region.specs.declared.SizeAnswer.{SizeAnswer}
+use Rattle.region.specs.declared.RegionAnswer.{RegionAnswer}
+use Rattle.region.specs.declared.CursorAnswer.{CursorAnswer}
 
 -- ---- Layout
 unfoldable pub checkedAlignSizeWithinRect : ℕ → Layout → Vec2 → Rect → RectAnswer
@@ -84,13 +73,3 @@ checkedEndRow l g sp = moved (l .«main_dir») (least (regionFault (l .«main_di
 
 unfoldable pub checkedSetRowHeight : Layout → Region → Float → RegionAnswer
 checkedSetRowHeight l g h = moved (l .«main_dir») (least (regionFault (l .«main_dir») g ∷ lengthFault h ∷ [])) g (setRowHeight l g h)
-
--- ---- Region: the direction says which edge of its cursor is open
-unfoldable pub checkedExpandToIncludeRect : Direction → Region → Rect → RegionAnswer
-checkedExpandToIncludeRect d g r = moved d (least (regionFault d g ∷ rectFault r ∷ [])) g (expandToIncludeRect g r)
-
-unfoldable pub checkedExpandToIncludeX : Direction → Region → Float → RegionAnswer
-checkedExpandToIncludeX d g x = moved d (least (regionFault d g ∷ lengthFault x ∷ [])) g (expandToIncludeX g x)
-
-unfoldable pub checkedExpandToIncludeY : Direction → Region → Float → RegionAnswer
-checkedExpandToIncludeY d g y = moved d (least (regionFault d g ∷ lengthFault y ∷ [])) g (expandToIncludeY g y)

@@ -1,51 +1,20 @@
 -- layout.rs, "Region" and "Doing layout", function by function, before anything is refused. Where a call rounds, the step is 1 / 2 ^ k point.
 use Prim.Native.Nat.{ℕ}
-use mathlib.Core.Bool.{Bool, false, cond, not, _&&_, _||_}
-use lib.Ieee.{Float, nan, inf, binary32, neg, add, sub, lt}
-use Rattle.emath.specs.Rectangles.{zeroF, oneF, minF, maxF, atLeast, width, height, sizeOf, center, midpoint, fromCenterSize, translate, intersect, union, extendWithX, extendWithY, intersects, shrink, alignWithin, withX, withY, roundRect}
-use Rattle.layout.specs.Layouts.{isHorizontal, isCenter, horizontalAlign, verticalAlign, align2, horizontalJustify, verticalJustify}
+use mathlib.Core.Bool.{Bool, cond, not, _&&_, _||_}
+use lib.Ieee.{Float, nan, binary32, neg, add, sub, lt}
+use Rattle.emath.specs.Rectangles.{zeroF, oneF, minF, maxF, atLeast, width, height, sizeOf, center, midpoint, fromCenterSize, translate, intersect, union, intersects, shrink, alignWithin, withX, withY, roundRect}
+use Rattle.region.specs.Directions.{isHorizontal}
+use Rattle.layout.specs.Layouts.{isCenter, horizontalAlign, verticalAlign, align2, horizontalJustify, verticalJustify}
 use Rattle.emath.specs.declared.Rect.{Rect}
 use Rattle.emath.specs.declared.Vec2.{Vec2}
 use Rattle.emath.specs.declared.Pos2.{Pos2}
 use Rattle.emath.specs.declared.Rangef.{Rangef}
 use Rattle.emath.specs.declared.Align2.{Align2}
 use Rattle.emath.specs.declared.Align.the-variants.{Min, Max}
-use Rattle.layout.specs.declared.Direction.{Direction}
-use Rattle.layout.specs.declared.Direction.the-variants.{LeftToRight, RightToLeft, TopDown, BottomUp}
+use Rattle.region.specs.declared.Direction.{Direction}
+use Rattle.region.specs.declared.Direction.the-variants.{LeftToRight, RightToLeft, TopDown, BottomUp}
 use Rattle.layout.specs.declared.Layout.{Layout}
-use Rattle.layout.specs.declared.Region.{Region}
-
-abbrev pub infinity : Float
-infinity = inf false
-
-abbrev pub zeroVec : Vec2
-zeroVec = record { x = zeroF; y = zeroF }
-
--- one edge set anew, as in `cursor.min.x = …`
-abbrev pub setLeft : Rect → Float → Rect
-setLeft r v = record { left = v; top = r .top; right = r .right; bottom = r .bottom }
-
-abbrev pub setTop : Rect → Float → Rect
-setTop r v = record { left = r .left; top = v; right = r .right; bottom = r .bottom }
-
-abbrev pub setRight : Rect → Float → Rect
-setRight r v = record { left = r .left; top = r .top; right = v; bottom = r .bottom }
-
-abbrev pub setBottom : Rect → Float → Rect
-setBottom r v = record { left = r .left; top = r .top; right = r .right; bottom = v }
-
--- ---- Region
-abbrev pub withCursor : Region → Rect → Region
-withCursor g c = record { «min_rect» = g .«min_rect»; «max_rect» = g .«max_rect»; cursor = c }
-
-unfoldable pub expandToIncludeRect : Region → Rect → Region
-expandToIncludeRect g r = record { «min_rect» = union (g .«min_rect») r; «max_rect» = union (g .«max_rect») r; cursor = g .cursor }
-
-unfoldable pub expandToIncludeX : Region → Float → Region
-expandToIncludeX g x = record { «min_rect» = extendWithX (g .«min_rect») x; «max_rect» = extendWithX (g .«max_rect») x; cursor = extendWithX (g .cursor) x }
-
-unfoldable pub expandToIncludeY : Region → Float → Region
-expandToIncludeY g y = record { «min_rect» = extendWithY (g .«min_rect») y; «max_rect» = extendWithY (g .«max_rect») y; cursor = extendWithY (g .cursor) y }
+use Rattle.region.specs.declared.Region.{Region}
 
 -- ---- align_size_within_rect
 unfoldable pub alignSizeWithinRect : ℕ → Layout → Vec2 → Rect → Rect

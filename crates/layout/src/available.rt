@@ -1,7 +1,5 @@
 // Where there is room: initial_cursor, available_from_cursor_max_rect, available_size.
-use crate::Direction;
 use crate::Layout;
-use crate::Region;
 use emath::Rangef;
 use emath::Rect;
 use emath::Vec2;
@@ -9,6 +7,8 @@ use emath::num::fast_midpoint;
 use emath::num::infinity;
 use emath::num::max;
 use emath::num::min;
+use region::Direction;
+use region::Region;
 ghost use mathlib.Core.Path.{_≡_};
 ghost use Rattle.layout.specs.Rules.{initialCursor, uncut, notNegative, notNegativeRect, availableFromCursorMaxRect, availableRectBeforeWrap, availableSize};
 

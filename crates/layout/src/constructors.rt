@@ -1,11 +1,11 @@
 // Layout's constructors and builders.
-use crate::Direction;
 use crate::Layout;
 use emath::Align;
+use region::Direction;
 ghost use mathlib.Core.Path.{_≡_};
 ghost use mathlib.Core.Bool.{true, false};
 ghost use Rattle.layout.specs.Layouts.{plain, centeredAndJustified, withMainWrap, withMainAlign, withCrossAlign, withMainJustify, withCrossJustify};
-ghost use Rattle.layout.specs.declared.Direction.the-variants.{LeftToRight, RightToLeft, TopDown, BottomUp};
+ghost use Rattle.region.specs.declared.Direction.the-variants.{LeftToRight, RightToLeft, TopDown, BottomUp};
 ghost use Rattle.emath.specs.declared.Align.the-variants.{Min};
 
 impl Layout {

@@ -1,16 +1,16 @@
 // How the cursor moves: advance_cursor, advance_after_rects, end_row, set_row_height.
-use crate::Direction;
 use crate::Layout;
-use crate::Region;
-use crate::regions::expand_to_include_x;
-use crate::regions::expand_to_include_y;
-use crate::regions::with_cursor;
 use emath::Rect;
 use emath::Vec2;
 use emath::num::infinity;
 use emath::num::max;
 use emath::num::min;
 use emath::num::nan;
+use region::Direction;
+use region::Region;
+use region::regions::expand_to_include_x;
+use region::regions::expand_to_include_y;
+use region::regions::with_cursor;
 ghost use mathlib.Core.Path.{_≡_};
 ghost use Rattle.layout.specs.Rules.{advanceCursor, rowStarted, staysInRow, grownAcross, rowFor, pastWidget, advanceAfterRects, nextRow, endRow, setRowHeight};
 

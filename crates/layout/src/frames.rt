@@ -1,7 +1,5 @@
 // Where the next frame goes: next_frame, with and without wrap.
-use crate::Direction;
 use crate::Layout;
-use crate::Region;
 use crate::available::available_rect_before_wrap;
 use crate::inspectors::is_center;
 use emath::Align;
@@ -11,6 +9,8 @@ use emath::Rect;
 use emath::Vec2;
 use emath::num::infinity;
 use emath::num::max;
+use region::Direction;
+use region::Region;
 ghost use mathlib.Core.Path.{_≡_};
 ghost use mathlib.Core.Bool.{_&&_};
 ghost use Rattle.emath.specs.Steps.{tick};

@@ -1,30 +1,12 @@
-// What a Direction and a Layout say of themselves.
-use crate::Direction;
+// What a Layout says of itself.
 use crate::Layout;
 use emath::Align;
 use emath::Align2;
+use region::Direction;
 ghost use mathlib.Core.Path.{_≡_};
 ghost use mathlib.Core.Bool.{not};
-ghost use Rattle.layout.specs.Layouts.{isHorizontal, isCenter, isMax, isRightToLeft, preferRightToLeft, horizontalPlacement, horizontalAlign, verticalAlign, align2, horizontalJustify, verticalJustify};
-
-impl Direction {
-    pub fn is_horizontal(self) -> bool
-        ensures { λ b. ⌜ b ≡ isHorizontal self ⌝ }
-    {
-        match self {
-            Direction::LeftToRight => true,
-            Direction::RightToLeft => true,
-            Direction::TopDown => false,
-            Direction::BottomUp => false,
-        }
-    }
-
-    pub fn is_vertical(self) -> bool
-        ensures { λ b. ⌜ b ≡ not (isHorizontal self) ⌝ }
-    {
-        !self.is_horizontal()
-    }
-}
+ghost use Rattle.region.specs.Directions.{isHorizontal};
+ghost use Rattle.layout.specs.Layouts.{isCenter, isMax, isRightToLeft, preferRightToLeft, horizontalPlacement, horizontalAlign, verticalAlign, align2, horizontalJustify, verticalJustify};
 
 fn is_right_to_left(d: Direction) -> bool
     ensures { λ b. ⌜ b ≡ isRightToLeft d ⌝ }

@@ -1,26 +1,8 @@
 // The public calls, in layout.rs's order: each answers the least number that applies to its arguments or its answer, or what its rule gives.
-use crate::CursorAnswer;
-use crate::Direction;
 use crate::Layout;
-use crate::PosAnswer;
-use crate::RectAnswer;
-use crate::Region;
-use crate::RegionAnswer;
-use crate::SizeAnswer;
 use crate::available;
 use crate::cursors;
-use crate::faults::cursor_answer;
-use crate::faults::cursor_fault;
-use crate::faults::framed_rect;
-use crate::faults::moved_region;
-use crate::faults::placed_rect;
-use crate::faults::pos_answer;
-use crate::faults::rect_answer;
-use crate::faults::region_fault;
-use crate::faults::size_answer;
-use crate::faults::zero_region;
 use crate::frames;
-use crate::regions;
 use crate::widgets;
 use emath::Rect;
 use emath::Vec2;
@@ -31,35 +13,25 @@ use emath::faults::outside_domain;
 use emath::faults::pair_fault;
 use emath::faults::rect_fault;
 use emath::faults::size_fault;
+use region::CursorAnswer;
+use region::PosAnswer;
+use region::RectAnswer;
+use region::Region;
+use region::RegionAnswer;
+use region::SizeAnswer;
+use region::faults::cursor_answer;
+use region::faults::cursor_fault;
+use region::faults::framed_rect;
+use region::faults::moved_region;
+use region::faults::placed_rect;
+use region::faults::pos_answer;
+use region::faults::rect_answer;
+use region::faults::region_fault;
+use region::faults::size_answer;
+use region::faults::zero_region;
 ghost use mathlib.Core.Path.{_≡_};
 ghost use Rattle.emath.specs.Steps.{tick};
-ghost use Rattle.layout.specs.Operations.{checkedAlignSizeWithinRect, checkedInitialCursor, checkedRegionFromMaxRect, checkedAvailableRectBeforeWrap, checkedAvailableSize, checkedAvailableFromCursorMaxRect, checkedNextFrame, checkedNextFrameIgnoreWrap, checkedJustifyAndAlign, checkedNextWidgetSpaceIgnoreWrapJustify, checkedNextWidgetPosition, checkedAdvanceCursor, checkedAdvanceAfterRects, checkedEndRow, checkedSetRowHeight, checkedExpandToIncludeRect, checkedExpandToIncludeX, checkedExpandToIncludeY};
-
-impl Region {
-    pub fn expand_to_include_rect(self, main_dir: Direction, rect: Rect) -> RegionAnswer
-        ensures { λ a. ⌜ a ≡ checkedExpandToIncludeRect «main_dir» self rect ⌝ }
-    {
-        let new = regions::expand_to_include_rect(self, rect);
-        let before = lesser_number(region_fault(main_dir, self), rect_fault(rect));
-        moved_region(main_dir, before, self, new)
-    }
-
-    pub fn expand_to_include_x(self, main_dir: Direction, x: f32) -> RegionAnswer
-        ensures { λ a. ⌜ a ≡ checkedExpandToIncludeX «main_dir» self x ⌝ }
-    {
-        let new = regions::expand_to_include_x(self, x);
-        let before = lesser_number(region_fault(main_dir, self), length_fault(x));
-        moved_region(main_dir, before, self, new)
-    }
-
-    pub fn expand_to_include_y(self, main_dir: Direction, y: f32) -> RegionAnswer
-        ensures { λ a. ⌜ a ≡ checkedExpandToIncludeY «main_dir» self y ⌝ }
-    {
-        let new = regions::expand_to_include_y(self, y);
-        let before = lesser_number(region_fault(main_dir, self), length_fault(y));
-        moved_region(main_dir, before, self, new)
-    }
-}
+ghost use Rattle.layout.specs.Operations.{checkedAlignSizeWithinRect, checkedInitialCursor, checkedRegionFromMaxRect, checkedAvailableRectBeforeWrap, checkedAvailableSize, checkedAvailableFromCursorMaxRect, checkedNextFrame, checkedNextFrameIgnoreWrap, checkedJustifyAndAlign, checkedNextWidgetSpaceIgnoreWrapJustify, checkedNextWidgetPosition, checkedAdvanceCursor, checkedAdvanceAfterRects, checkedEndRow, checkedSetRowHeight};
 
 impl Layout {
     pub fn align_size_within_rect(self, size: Vec2, outer: Rect) -> RectAnswer

@@ -1,12 +1,12 @@
 // Where a widget goes in its frame: align_size_within_rect, justify_and_align and what is built on them.
 use crate::Layout;
-use crate::Region;
 use crate::available::initial_cursor;
 use crate::frames::next_frame_ignore_wrap;
 use emath::Pos2;
 use emath::Rect;
 use emath::Vec2;
 use emath::num::at_least;
+use region::Region;
 ghost use mathlib.Core.Path.{_≡_};
 ghost use Rattle.emath.specs.Steps.{tick};
 ghost use Rattle.layout.specs.Rules.{alignSizeWithinRect, raised, justifyAndAlign, nextWidgetSpaceIgnoreWrapJustify, nextWidgetPosition, regionFromMaxRect};

@@ -25,10 +25,10 @@ use denote.Lend.{lends-ref, ref-back}
 use denote.Steps.{owned, heard}
 use denote.Struct.Steps.{spelt}
 use denote.Struct.Laws as LL
-use Rattle.layout.specs.declared.Region.{Region}
-use Rattle.layout.specs.declared.RegionAnswer.{RegionAnswer}
-use Rattle.layout.proofs.Region as T
-use Rattle.layout.proofs.Region.Laws as T′
+use Rattle.region.specs.declared.Region.{Region}
+use Rattle.region.specs.declared.RegionAnswer.{RegionAnswer}
+use Rattle.region.proofs.Region as T
+use Rattle.region.proofs.Region.Laws as T′
 use Rattle.lent_region.proofs.Lending.{regionVal}
 
 module _ {M : Type 1} (𝓤 : URA M) (H : Heap 𝓤) (A : Atoms 𝓤) (W : Given 𝓤 H A) (b o : ℕ) where

@@ -30,14 +30,14 @@ use denote.Struct.Steps.{spelt}
 use denote.Struct.Laws as LL
 use denote.Triple.Call.{calls-from}
 use Rattle.layout.specs.declared.Layout.{Layout}
-use Rattle.layout.specs.declared.Region.{Region}
-use Rattle.layout.specs.declared.RegionAnswer.{RegionAnswer}
+use Rattle.region.specs.declared.Region.{Region}
+use Rattle.region.specs.declared.RegionAnswer.{RegionAnswer}
 use Rattle.layout.proofs.Layout as L
 use Rattle.layout.proofs.Layout.Laws as L′
-use Rattle.layout.proofs.Region as T
-use Rattle.layout.proofs.Region.Laws as T′
-use Rattle.layout.proofs.RegionAnswer as R
-use Rattle.layout.proofs.RegionAnswer.Laws as R′
+use Rattle.region.proofs.Region as T
+use Rattle.region.proofs.Region.Laws as T′
+use Rattle.region.proofs.RegionAnswer as R
+use Rattle.region.proofs.RegionAnswer.Laws as R′
 
 -- the code, of a last parameter of type τ and the call g
 abbrev pub lending : Ty → Name → Fn

@@ -2,7 +2,7 @@
 use lib.Ieee.{Float}
 use Rattle.emath.specs.declared.Vec2.{Vec2}
 use Rattle.layout.specs.declared.Layout.{Layout}
-use Rattle.layout.specs.declared.Region.{Region}
+use Rattle.region.specs.declared.Region.{Region}
 use Rattle.layout.specs.Operations.{checkedAdvanceCursor, checkedEndRow}
 use Rattle.lent_region.specs.declared.Edited.{Edited}
 

@@ -3,8 +3,8 @@
 // plain values: whoever calls it needs no walk.
 use emath::Vec2;
 use layout::Layout;
-use layout::Region;
-use layout::RegionAnswer;
+use region::Region;
+use region::RegionAnswer;
 ghost use mathlib.Core.Path.{_≡_};
 ghost use Rattle.layout.specs.Operations.{checkedAdvanceCursor, checkedEndRow};
 ghost use Rattle.lent_region.specs.Edits.{edited};

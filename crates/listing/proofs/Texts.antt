@@ -11,7 +11,7 @@ use Rattle.emath.specs.Steps.{Edge}
 use Rattle.emath.proofs.Casts.{points-to-steps}
 use Rattle.emath.proofs.Sums.{edge-small}
 use Rattle.emath.specs.declared.Rect.{Rect}
-use Rattle.layout.specs.Steps.{WholeRect}
+use Rattle.region.specs.Steps.{WholeRect}
 use Rattle.text.specs.Fields.{hasText}
 use Rattle.text.specs.Lines.{haveTexts}
 use Rattle.sheet.specs.Pass.{Cell}

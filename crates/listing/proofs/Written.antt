@@ -12,7 +12,7 @@ use lib.ListN.{length, getD, take, drop, length-append, length-take}
 use lib.Seq.{sets, length-sets, getD-drop, drop-drop}
 use lib.Ieee.{Float}
 use Rattle.emath.specs.declared.Rect.{Rect}
-use Rattle.layout.specs.Steps.{WholeRect}
+use Rattle.region.specs.Steps.{WholeRect}
 use Rattle.grid.specs.Memories.{widths, heights}
 use Rattle.grid.specs.declared.Memory.{Memory}
 use Rattle.text.specs.Lines.{texts, line, haveTexts}

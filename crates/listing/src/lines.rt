@@ -13,7 +13,7 @@ ghost use lib.IntN.{pos};
 ghost use lib.ListN.{length, getD, drop};
 ghost use Rattle.text.specs.Letters as letters;
 ghost use Rattle.emath.specs.Steps.{tick, Edge};
-ghost use Rattle.layout.specs.Steps.{WholeRect};
+ghost use Rattle.region.specs.Steps.{WholeRect};
 ghost use Rattle.records.specs.Headings.{headingIn};
 ghost use Rattle.records.specs.Sheets.{stepsLeft};
 ghost use Rattle.sheet.specs.Ticks.{ticks, inTicks};

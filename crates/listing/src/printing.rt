@@ -17,7 +17,7 @@ use sheet::passing::pass_keeping;
 ghost use mathlib.Core.Path.{_≡_};
 ghost use Prim.Native.Nat.{_≤_, _<_};
 ghost use Rattle.emath.specs.Steps.{tick};
-ghost use Rattle.layout.specs.Steps.{WholeRect};
+ghost use Rattle.region.specs.Steps.{WholeRect};
 ghost use Rattle.sheet.specs.Slices.{passedOf};
 ghost use Rattle.listing.specs.Lists.{settled, listIn};
 ghost use Rattle.listing.specs.Implementation.Putting.{isAccepted, putAccepted, putPassed, WholeMemory, Printable, numberOf};

@@ -10,10 +10,10 @@ use Rattle.emath.specs.Refusals.{least, sizeFault}
 use Rattle.emath.proofs.Refusals.{lesser-none, when-none}
 use Rattle.emath.specs.declared.Rect.{Rect}
 use Rattle.emath.specs.declared.Vec2.{Vec2}
-use Rattle.layout.specs.Refusals.{closed, regionFault}
-use Rattle.layout.specs.Steps.{WholeCursor}
-use Rattle.layout.specs.declared.Direction.{Direction}
-use Rattle.layout.specs.declared.Direction.the-variants.{LeftToRight, RightToLeft, TopDown, BottomUp}
+use Rattle.region.specs.Refusals.{closed, regionFault}
+use Rattle.region.specs.Steps.{WholeCursor}
+use Rattle.region.specs.declared.Direction.{Direction}
+use Rattle.region.specs.declared.Direction.the-variants.{LeftToRight, RightToLeft, TopDown, BottomUp}
 use Rattle.grid.specs.Memories.{heights}
 use Rattle.grid.specs.Grids.{knownMemory, newGrid}
 use Rattle.grid.specs.Refusals.{gridFault, fitsGrid, directionFault}

@@ -8,7 +8,7 @@ use Rattle.emath.specs.Refusals.{when, lesser, least, lengthFault, frameFault, 
 use Rattle.emath.proofs.Refusals.{lesser-none}
 use Rattle.emath.specs.declared.Rect.{Rect}
 use Rattle.emath.specs.declared.Vec2.{Vec2}
-use Rattle.layout.specs.Steps.{WholeRect}
+use Rattle.region.specs.Steps.{WholeRect}
 use Rattle.layout.specs.declared.Layout.{Layout}
 use Rattle.grid.specs.Refusals.{fitsGrid}
 use Rattle.grid.proofs.Cells.{next-cell-whole, align-size-within-rect-whole}

@@ -7,8 +7,8 @@ use lib.ListN.{drop}
 use mathlib.Core.List.{List, [], _∷_}
 use lib.IntN.{ℤ, natAbs}
 use Rattle.emath.specs.Steps.{Edge}
-use Rattle.layout.specs.Steps.{WholeRect, WholeSize}
-use Rattle.layout.specs.Rules.{zeroVec}
+use Rattle.region.specs.Steps.{WholeRect, WholeSize}
+use Rattle.region.specs.Regions.{zeroVec}
 use Rattle.text.specs.Fields.{fieldAt}
 use Rattle.text.specs.declared.Field.{Field}
 use Rattle.text.specs.declared.Field.the-variants as field

@@ -13,9 +13,9 @@ use borrow.Author.Tests.{eqb-true}
 use Rattle.emath.specs.Rectangles.{zeroF}
 use Rattle.emath.specs.Steps.{Edge}
 use Rattle.emath.proofs.Zeros.{val-zero}
-use Rattle.layout.specs.Refusals.{zeroRect}
+use Rattle.region.specs.Refusals.{zeroRect}
 use Rattle.emath.specs.declared.Vec2.{Vec2}
-use Rattle.layout.specs.Steps.{WholeRect, WholeSize}
+use Rattle.region.specs.Steps.{WholeRect, WholeSize}
 use Rattle.placer.specs.Rules.{newPlacer, advanceAfterRects, movedPast, expandToIncludeRect, setCursor, endRow, advanceCursor, setRowHeight, setMaxWidth, setMaxHeight, setMinWidth, setMinHeight}
 use Rattle.placer.specs.Refusals.{placerFault, changed}
 use Rattle.placer.specs.Operations.{checkedAdvanceCursor, checkedSetRowHeight, checkedEndRow, checkedSetMaxWidth, checkedSetMaxHeight, checkedSetMinWidth, checkedSetMinHeight}

@@ -1,7 +1,7 @@
 -- The rectangles of a pass in whole steps of 1 / 2 ^ k point.
 use mathlib.Core.List.{List, [], _∷_}
 use Prim.Native.Nat.{ℕ}
-use Rattle.layout.specs.Steps.{WholeRect}
+use Rattle.region.specs.Steps.{WholeRect}
 use Rattle.sheet.specs.Pass.{Cell}
 
 -- every edge of a W's frame and widget is a whole step of the domain

@@ -3,7 +3,7 @@ use mathlib.Core.List.{List, [], _∷_}
 use Prim.Native.Nat.{ℕ}
 use lib.Ieee.{Float}
 use Rattle.emath.specs.Steps.{Edge}
-use Rattle.layout.specs.Steps.{WholeRect, WholeSize}
+use Rattle.region.specs.Steps.{WholeRect, WholeSize}
 use Rattle.records.specs.declared.Step.{Step}
 use Rattle.records.specs.declared.Step.the-variants.{Widget, Space, RowHeight, MaxWidth, MaxHeight, MinWidth, MinHeight, RowEnd}
 use Rattle.sheet.specs.Pass.{Sheet}

@@ -6,7 +6,7 @@ use native.Mathlib.Omega.{arith}
 use lib.Dec.{T, eqb, eqb→eq}
 use Rattle.emath.specs.Refusals.{outside, least}
 use Rattle.emath.proofs.Refusals.{or-none, outside-none, lesser-none}
-use Rattle.layout.specs.Refusals.{regionFault}
+use Rattle.region.specs.Refusals.{regionFault}
 use Rattle.grid.specs.Refusals.{gridFault, directionFault}
 use Rattle.placer.specs.Refusals.{gridPart, placerFault, placerAnswer, changed}
 use Rattle.placer.specs.declared.Placer.{Placer}

@@ -17,7 +17,7 @@ use Rattle.grid.proofs.Advances.{Sound, row-without-cell}
 use Rattle.placer.specs.Steps.{WholeAcross, WholeDown}
 use Rattle.emath.specs.declared.Rect.{Rect}
 use Rattle.emath.specs.declared.Vec2.{Vec2}
-use Rattle.layout.specs.declared.Region.{Region}
+use Rattle.region.specs.declared.Region.{Region}
 use Rattle.grid.specs.declared.Memory.{Memory}
 use Rattle.grid.specs.declared.GridLayout.{GridLayout}
 

@@ -4,8 +4,8 @@ use mathlib.Core.Bool.{Bool, true, false, cond}
 use Rattle.emath.specs.declared.Rect.{Rect}
 use Rattle.emath.specs.declared.Vec2.{Vec2}
 use Rattle.layout.specs.Rules as layout-rules
-use Rattle.layout.specs.Rules.{withCursor}
-use Rattle.layout.specs.declared.Region.{Region}
+use Rattle.region.specs.Regions.{withCursor}
+use Rattle.region.specs.declared.Region.{Region}
 use Rattle.grid.specs.Grids as grid-rules
 use Rattle.placer.specs.Rules.{setGrid, withRegion, setCursor, expandToIncludeRect, movedPast, advanceAfterRects, endRow}
 use Rattle.placer.specs.Implementation.Lent.{placerWith}

@@ -9,7 +9,7 @@ use lib.Dec.{T, leb, nleb→lt}
 use lib.ListN.{length}
 use Rattle.emath.specs.Refusals.{when, lesser, least, orElse, outside}
 use Rattle.emath.proofs.Refusals.{lesser-none}
-use Rattle.layout.specs.Refusals.{regionFault}
+use Rattle.region.specs.Refusals.{regionFault}
 use Rattle.grid.specs.Refusals.{gridFault, directionFault}
 use Rattle.grid.proofs.Unfaulted.{lesser-zero, zero-lesser, advance-fault, end-row-fault}
 use Rattle.placer.specs.Rules.{withRegion, setCursor, expandToIncludeRect, movedPast, advanceAfterRects, endRow}
@@ -18,7 +18,7 @@ use Rattle.placer.specs.Implementation.Lent.{raisedPart, pastPart}
 use Rattle.placer.proofs.Parts.{ended, row-ended}
 use Rattle.emath.specs.declared.Rect.{Rect}
 use Rattle.emath.specs.declared.Vec2.{Vec2}
-use Rattle.layout.specs.declared.Region.{Region}
+use Rattle.region.specs.declared.Region.{Region}
 use Rattle.placer.specs.declared.Placer.{Placer}
 
 -- ---- a call that sets the region anew

@@ -7,11 +7,12 @@ use native.Mathlib.Omega.{arith}
 use lib.Ieee.{Float}
 use Rattle.emath.specs.Steps.{Edge}
 use Rattle.layout.specs.Rules as layout-rules
-use Rattle.layout.specs.Rules.{withCursor}
-use Rattle.layout.specs.Refusals.{cursorFault, regionFault}
-use Rattle.layout.specs.Steps.{WholeRect, WholeSize, WholeCursor, WholeRegion}
-use Rattle.layout.proofs.Answers.{region-none}
-use Rattle.layout.proofs.WholeRegions.{advance-cursor-whole, end-row-whole, set-row-height-whole, expand-to-include-rect-whole, expand-to-include-x-whole, expand-to-include-y-whole}
+use Rattle.region.specs.Regions.{withCursor}
+use Rattle.region.specs.Refusals.{cursorFault, regionFault}
+use Rattle.region.specs.Steps.{WholeRect, WholeSize, WholeCursor, WholeRegion}
+use Rattle.region.proofs.Answers.{region-none}
+use Rattle.region.proofs.WholeRegions.{expand-to-include-rect-whole, expand-to-include-x-whole, expand-to-include-y-whole}
+use Rattle.layout.proofs.WholeCursors.{advance-cursor-whole, end-row-whole, set-row-height-whole}
 use Rattle.layout.proofs.WholeCursors.{advance-after-rects-whole}
 use Rattle.layout.proofs.Seeds.{region-from-max-rect-whole}
 use Rattle.placer.specs.Refusals.{placerFault}
@@ -20,9 +21,9 @@ use Rattle.placer.specs.Steps.{WholePlacer}
 use Rattle.placer.proofs.Accepted.{placer-region}
 use Rattle.emath.specs.declared.Rect.{Rect}
 use Rattle.emath.specs.declared.Vec2.{Vec2}
-use Rattle.layout.specs.declared.Direction.{Direction}
+use Rattle.region.specs.declared.Direction.{Direction}
 use Rattle.layout.specs.declared.Layout.{Layout}
-use Rattle.layout.specs.declared.Region.{Region}
+use Rattle.region.specs.declared.Region.{Region}
 use Rattle.grid.specs.declared.GridLayout.{GridLayout}
 use Rattle.placer.specs.declared.Placer.{Placer}
 

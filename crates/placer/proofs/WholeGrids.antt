@@ -17,10 +17,10 @@ use Rattle.emath.proofs.Values.{val-add}
 use Rattle.emath.proofs.Edges.{within-steps}
 use Rattle.emath.proofs.Refusals.{edges-within, rect-none}
 use Rattle.layout.specs.Rules as layout-rules
-use Rattle.layout.specs.Rules.{withCursor}
-use Rattle.layout.specs.Refusals.{closed, cursorFault}
-use Rattle.layout.specs.Steps.{WholeRect, WholeCursor, WholeRegion}
-use Rattle.layout.proofs.Answers.{region-none}
+use Rattle.region.specs.Regions.{withCursor}
+use Rattle.region.specs.Refusals.{closed, cursorFault}
+use Rattle.region.specs.Steps.{WholeRect, WholeCursor, WholeRegion}
+use Rattle.region.proofs.Answers.{region-none}
 use Rattle.grid.specs.Grids as grid-rules
 use Rattle.grid.specs.Refusals.{fitsGrid}
 use Rattle.placer.specs.Refusals.{placerFault}
@@ -30,10 +30,10 @@ use Rattle.placer.proofs.Accepted.{placer-region}
 use Rattle.placer.proofs.WholePlacers.{WholeIf, RectIf, RegionIf, edge-whole-if, rect-if, region-if, rect-whole, region-whole, space-if, union-if}
 use Rattle.emath.specs.declared.Rect.{Rect}
 use Rattle.emath.specs.declared.Vec2.{Vec2}
-use Rattle.layout.specs.declared.Direction.{Direction}
-use Rattle.layout.specs.declared.Direction.the-variants.{LeftToRight, RightToLeft, TopDown, BottomUp}
+use Rattle.region.specs.declared.Direction.{Direction}
+use Rattle.region.specs.declared.Direction.the-variants.{LeftToRight, RightToLeft, TopDown, BottomUp}
 use Rattle.layout.specs.declared.Layout.{Layout}
-use Rattle.layout.specs.declared.Region.{Region}
+use Rattle.region.specs.declared.Region.{Region}
 use Rattle.grid.specs.declared.GridLayout.{GridLayout}
 use Rattle.placer.specs.declared.Placer.{Placer}
 

@@ -16,7 +16,7 @@ use Rattle.emath.proofs.Tests.{T-of}
 use Rattle.emath.proofs.Refusals.{lesser-none, when-none}
 use Rattle.emath.proofs.Sums.{grid-edge, grid-sub}
 use Rattle.layout.specs.Rules as layout-rules
-use Rattle.layout.specs.Steps.{WholeRect}
+use Rattle.region.specs.Steps.{WholeRect}
 use Rattle.grid.specs.Entries.{entry, raised, entriesFault}
 use Rattle.grid.specs.Memories.{heights, raisedCount, setMinColWidth, setMinRowHeight, rowHeight}
 use Rattle.grid.specs.Grids as grid-rules

@@ -17,21 +17,21 @@ use Rattle.emath.proofs.Edges.{round-edge}
 use Rattle.emath.proofs.Sums.{grid-edge, zero-grid}
 use Rattle.emath.proofs.Refusals.{edges-within, rect-none}
 use Rattle.layout.specs.Rules as layout-rules
-use Rattle.layout.specs.Rules.{infinity}
+use Rattle.region.specs.Regions.{infinity}
 use Rattle.layout.specs.Layouts.{align2}
-use Rattle.layout.specs.Refusals.{excused, closed, cursorFault, regionFault}
-use Rattle.layout.specs.Steps.{WholeRect, WholeRegion}
-use Rattle.layout.proofs.Answers.{region-none}
-use Rattle.layout.proofs.WholeRegions.{eq-inf-is, neg-infinity}
+use Rattle.region.specs.Refusals.{excused, closed, cursorFault, regionFault}
+use Rattle.region.specs.Steps.{WholeRect, WholeRegion}
+use Rattle.region.proofs.Answers.{region-none}
+use Rattle.region.proofs.WholeRegions.{eq-inf-is, neg-infinity}
 use Rattle.placer.specs.Refusals.{placerFault}
 use Rattle.placer.specs.Rules.{withRegion, expandToIncludeX, expandToIncludeY, nextWidgetSpaceIgnoreWrapJustify, limitedAcross, limitedDown, setMaxWidth, setMaxHeight, grownAcross, grownDown, setMinWidth, setMinHeight}
 use Rattle.placer.specs.Steps.{WholePlacer}
 use Rattle.placer.proofs.Accepted.{placer-region}
 use Rattle.emath.specs.declared.Rect.{Rect}
 use Rattle.emath.specs.declared.Vec2.{Vec2}
-use Rattle.layout.specs.declared.Direction.{Direction}
-use Rattle.layout.specs.declared.Direction.the-variants.{LeftToRight, RightToLeft, TopDown, BottomUp}
-use Rattle.layout.specs.declared.Region.{Region}
+use Rattle.region.specs.declared.Direction.{Direction}
+use Rattle.region.specs.declared.Direction.the-variants.{LeftToRight, RightToLeft, TopDown, BottomUp}
+use Rattle.region.specs.declared.Region.{Region}
 use Rattle.placer.specs.declared.Placer.{Placer}
 
 -- ---- whole wherever it is within the limit: an infinity and a NaN are so, and every rounded edge

@@ -7,16 +7,16 @@ use lib.Ieee.{Float, binary32, add, le}
 use Rattle.emath.specs.Rectangles.{zeroF, extendWithX, extendWithY}
 use Rattle.emath.specs.Steps.{Edge}
 use Rattle.layout.specs.Rules as layout-rules
-use Rattle.layout.specs.Rules.{withCursor, setBottom}
-use Rattle.layout.specs.Layouts.{isHorizontal}
-use Rattle.layout.specs.Steps.{WholeRect}
+use Rattle.region.specs.Regions.{withCursor, setBottom}
+use Rattle.region.specs.Directions.{isHorizontal}
+use Rattle.region.specs.Steps.{WholeRect}
 use Rattle.grid.specs.Refusals.{fitsGrid}
 use Rattle.placer.specs.Refusals.{placerFault}
 use Rattle.placer.specs.Rules.{forceSetMinRect, withRegion, setCursor, setRowHeight, expandToIncludeRect, expandToIncludeX, expandToIncludeY, nextWidgetSpaceIgnoreWrapJustify, grownAcross, grownDown, setMinWidth, setMinHeight}
 use Rattle.placer.specs.Steps.{WholeTops}
 use Rattle.placer.proofs.WholePlacers.{WholeIf, edge-whole-if, min-whole-if, rect-if, space-if, union-if, x-if, y-if}
 use Rattle.emath.specs.declared.Rect.{Rect}
-use Rattle.layout.specs.declared.Region.{Region}
+use Rattle.region.specs.declared.Region.{Region}
 use Rattle.placer.proofs.WholeGrids.{TopsIf, tops-if, tops-whole}
 use Rattle.placer.specs.declared.Placer.{Placer}
 

@@ -5,17 +5,17 @@ use mathlib.Core.List.{[], _∷_}
 use lib.Ieee.{Float}
 use Rattle.emath.specs.Numbers as number
 use Rattle.emath.specs.Refusals.{when, least, orElse, lengthFault, extentFault, pairFault, sizeFault, rectFault, outside}
-use Rattle.layout.specs.Refusals.{cursorFault, posAnswer, sizeAnswer}
-use Rattle.layout.specs.Operations.{placed, framed}
+use Rattle.region.specs.Refusals.{cursorFault, posAnswer, sizeAnswer}
+use Rattle.region.specs.Operations.{placed, framed}
 use Rattle.grid.specs.Refusals.{gridFault, directionFault, savedAnswer}
 use Rattle.placer.specs.Rules.{newPlacer, setGrid, saveGrid, forceSetMinRect, setCursor, alignSizeWithinRect, availableRectBeforeWrap, availableSize, nextSpace, nextWidgetPosition, justifyAndAlign, advanceCursor, expandToIncludeRect, expandToIncludeX, expandToIncludeY, advanceAfterRects, endRow, setRowHeight, nextWidgetSpaceIgnoreWrapJustify, setMaxWidth, setMaxHeight, setMinWidth, setMinHeight}
 use Rattle.placer.specs.Refusals.{placerFault, advanceFault, endRowFault, zeroPlacer, changed}
 use Rattle.emath.specs.declared.Rect.{Rect}
 use Rattle.emath.specs.declared.Vec2.{Vec2}
 use Rattle.layout.specs.declared.Layout.{Layout}
-use Rattle.layout.specs.declared.RectAnswer.{RectAnswer}
-use Rattle.layout.specs.declared.PosAnswer.{PosAnswer}
-use Rattle.layout.specs.declared.SizeAnswer.{SizeAnswer}
+use Rattle.region.specs.declared.RectAnswer.{RectAnswer}
+use Rattle.region.specs.declared.PosAnswer.{PosAnswer}
+use Rattle.region.specs.declared.SizeAnswer.{SizeAnswer}
 use Rattle.grid.specs.declared.GridLayout.{GridLayout}
 use Rattle.grid.specs.declared.SavedAnswer.{SavedAnswer}
 use Rattle.placer.specs.declared.Placer.{Placer}

@@ -5,7 +5,7 @@ use mathlib.Core.List.{[], _∷_}
 use lib.Dec.{eqb, leb}
 use Rattle.emath.specs.Numbers as number
 use Rattle.emath.specs.Refusals.{when, least, orElse, outside}
-use Rattle.layout.specs.Refusals.{regionFault, zeroRegion}
+use Rattle.region.specs.Refusals.{regionFault, zeroRegion}
 use Rattle.grid.specs.Grids.{emptyGrid}
 use Rattle.grid.specs.Refusals.{gridFault, directionFault}
 use Rattle.layout.specs.declared.Layout.{Layout}

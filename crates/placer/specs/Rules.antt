@@ -7,9 +7,9 @@ use Rattle.emath.specs.declared.Rect.{Rect}
 use Rattle.emath.specs.declared.Vec2.{Vec2}
 use Rattle.emath.specs.declared.Pos2.{Pos2}
 use Rattle.layout.specs.Rules as layout-rules
-use Rattle.layout.specs.Rules.{zeroVec, withCursor}
+use Rattle.region.specs.Regions.{zeroVec, withCursor}
 use Rattle.layout.specs.declared.Layout.{Layout}
-use Rattle.layout.specs.declared.Region.{Region}
+use Rattle.region.specs.declared.Region.{Region}
 use Rattle.grid.specs.Memories.{emptyMemory}
 use Rattle.grid.specs.Grids as grid-rules
 use Rattle.grid.specs.Grids.{emptyGrid}

@@ -1,7 +1,7 @@
 -- Whole steps of 1 / 2 ^ k point: the words of the laws in proofs/, for every k.
 use Prim.Native.Nat.{ℕ}
 use Rattle.emath.specs.Steps.{Edge}
-use Rattle.layout.specs.Steps.{WholeRect, WholeRegion}
+use Rattle.region.specs.Steps.{WholeRect, WholeRegion}
 use Rattle.grid.specs.Memories.{rowHeight}
 use Rattle.grid.specs.Grids.{prevColWidth}
 use Rattle.grid.specs.declared.GridLayout.{GridLayout}

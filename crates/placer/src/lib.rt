@@ -5,7 +5,7 @@ use grid::BareGrid;
 use grid::GridLayout;
 use grid::GridSpot;
 use layout::Layout;
-use layout::Region;
+use region::Region;
 
 pub mod calls;
 pub mod faults;

@@ -11,7 +11,7 @@ use lib.Seq.{drop-at}
 use lib.Ieee.{Float}
 use Rattle.emath.specs.Steps.{val, Edge}
 use Rattle.emath.specs.declared.Rect.{Rect}
-use Rattle.layout.specs.Steps.{WholeRect}
+use Rattle.region.specs.Steps.{WholeRect}
 use Rattle.grid.specs.declared.Memory.{Memory}
 use Rattle.records.specs.Sheets.{checked}
 use Rattle.records.specs.declared.Checked.{Checked}

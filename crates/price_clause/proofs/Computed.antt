@@ -12,7 +12,7 @@ use Rattle.emath.specs.Refusals as refusals
 use Rattle.emath.specs.Steps as steps
 use Rattle.layout.specs.Layouts as layouts
 use Rattle.layout.specs.Rules as layout-rules
-use Rattle.layout.specs.Refusals as layout-refusals
+use Rattle.region.specs.Refusals as layout-refusals
 use Rattle.grid.specs.Entries as entries
 use Rattle.grid.specs.Memories as memories
 use Rattle.grid.specs.Grids as grids

@@ -10,11 +10,11 @@ use Rattle.emath.specs.Steps.{Edge, most}
 use Rattle.emath.specs.declared.Rect.{Rect}
 use Rattle.emath.specs.declared.Vec2.{Vec2}
 use Rattle.layout.specs.Rules.{initialCursor, regionFromMaxRect}
-use Rattle.layout.specs.Steps.{OnePoint}
+use Rattle.region.specs.Steps.{OnePoint}
 use Rattle.layout.proofs.Seeds.{region-from-max-rect-seeded}
-use Rattle.layout.specs.declared.Direction.{Direction}
-use Rattle.layout.specs.declared.Direction.the-variants.{LeftToRight, RightToLeft, TopDown, BottomUp}
-use Rattle.layout.specs.declared.Region.{Region}
+use Rattle.region.specs.declared.Direction.{Direction}
+use Rattle.region.specs.declared.Direction.the-variants.{LeftToRight, RightToLeft, TopDown, BottomUp}
+use Rattle.region.specs.declared.Region.{Region}
 use Rattle.grid.specs.Memories.{widths, heights}
 use Rattle.grid.specs.Grids.{knownMemory, newGrid}
 use Rattle.grid.specs.Refusals.{fitsGrid}

@@ -13,10 +13,10 @@ use Rattle.emath.proofs.Refusals.{lesser-none, when-none, edges-within, frame-n
 use Rattle.emath.specs.declared.Rect.{Rect}
 use Rattle.emath.specs.declared.Vec2.{Vec2}
 use Rattle.layout.specs.Rules as layout-rules
-use Rattle.layout.specs.Refusals.{regionFault, closed, cursorFault}
-use Rattle.layout.proofs.Answers.{region-none}
-use Rattle.layout.specs.declared.Direction.{Direction}
-use Rattle.layout.specs.declared.Direction.the-variants.{LeftToRight, RightToLeft, TopDown, BottomUp}
+use Rattle.region.specs.Refusals.{regionFault, closed, cursorFault}
+use Rattle.region.proofs.Answers.{region-none}
+use Rattle.region.specs.declared.Direction.{Direction}
+use Rattle.region.specs.declared.Direction.the-variants.{LeftToRight, RightToLeft, TopDown, BottomUp}
 use Rattle.grid.specs.Grids as grid-rules
 use Rattle.grid.specs.Grids.{advanced, rowEnded}
 use Rattle.grid.specs.Refusals.{gridFault, fitsGrid, directionFault}

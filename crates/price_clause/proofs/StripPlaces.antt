@@ -20,11 +20,14 @@ use Rattle.emath.proofs.Sums.{edge-small}
 use Rattle.emath.proofs.Refusals.{rect-none}
 use Rattle.emath.specs.declared.Rect.{Rect}
 use Rattle.emath.specs.declared.Align.{Align}
-use Rattle.layout.specs.Rules.{zeroVec, nextFrameIgnoreWrap, wraps, nextFrame, alignSizeWithinRect, raised, justifyAndAlign, nextWidgetSpaceIgnoreWrapJustify, nextWidgetPosition, initialCursor, regionFromMaxRect}
-use Rattle.layout.specs.Layouts.{horizontalJustify, verticalJustify, isHorizontal}
-use Rattle.layout.specs.Steps.{WholeRect, strip}
+use Rattle.region.specs.Regions.{zeroVec}
+use Rattle.layout.specs.Rules.{nextFrameIgnoreWrap, wraps, nextFrame, alignSizeWithinRect, raised, justifyAndAlign, nextWidgetSpaceIgnoreWrapJustify, nextWidgetPosition, initialCursor, regionFromMaxRect}
+use Rattle.region.specs.Directions.{isHorizontal}
+use Rattle.layout.specs.Layouts.{horizontalJustify, verticalJustify}
+use Rattle.region.specs.Steps.{WholeRect}
+use Rattle.layout.specs.Strips.{strip}
 use Rattle.layout.proofs.Strips.{rectIn, stripCursor, strip-frame, strip-widget}
-use Rattle.layout.specs.declared.Region.{Region}
+use Rattle.region.specs.declared.Region.{Region}
 use Rattle.grid.specs.Grids.{emptyGrid}
 use Rattle.grid.specs.declared.GridLayout.{GridLayout}
 use Rattle.placer.specs.Rules.{newPlacer}

@@ -23,10 +23,10 @@ use Rattle.emath.specs.declared.Rect.{Rect}
 use Rattle.emath.specs.declared.Vec2.{Vec2}
 use Rattle.emath.specs.declared.Align.{Align}
 use Rattle.layout.specs.Rules as layout-rules
-use Rattle.layout.specs.Refusals.{closed, cursorFault}
-use Rattle.layout.proofs.Answers.{region-none}
+use Rattle.region.specs.Refusals.{closed, cursorFault}
+use Rattle.region.proofs.Answers.{region-none}
 use Rattle.layout.proofs.Strips.{rectIn, sizeIn, strip-frame, strip-widget, strip-advance}
-use Rattle.layout.specs.declared.Direction.the-variants.{LeftToRight}
+use Rattle.region.specs.declared.Direction.the-variants.{LeftToRight}
 use Rattle.placer.specs.Rules.{nextSpace, justifyAndAlign, movedPast, setCursor, expandToIncludeRect, advanceAfterRects, endRow}
 use Rattle.placer.specs.Refusals.{placerFault, endRowFault}
 use Rattle.placer.specs.Operations.{checkedEndRow}

@@ -15,7 +15,8 @@ use Rattle.emath.proofs.Casts.{points-to-steps}
 use Rattle.emath.proofs.Sums.{edge-small}
 use Rattle.emath.specs.declared.Vec2.{Vec2}
 use Rattle.emath.specs.declared.Align.{Align}
-use Rattle.layout.specs.Steps.{WholeRect, WholeSize, strip}
+use Rattle.region.specs.Steps.{WholeRect, WholeSize}
+use Rattle.layout.specs.Strips.{strip}
 use Rattle.layout.proofs.Strips.{rectIn}
 use Rattle.grid.specs.declared.Memory.{Memory}
 use Rattle.placer.specs.Rules.{newPlacer}

@@ -10,7 +10,7 @@ use lib.Ieee.{Float}
 use Rattle.emath.specs.Rectangles.{zeroF}
 use Rattle.emath.specs.Steps.{tick, val, most}
 use Rattle.emath.specs.declared.Rect.{Rect}
-use Rattle.layout.specs.Refusals.{zeroRect}
+use Rattle.region.specs.Refusals.{zeroRect}
 use Rattle.grid.specs.Memories.{colWidth}
 use Rattle.grid.specs.declared.Memory.{Memory}
 use Rattle.sheet.specs.declared.Laid.the-variants.{Accepted}

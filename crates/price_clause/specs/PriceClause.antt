@@ -6,7 +6,7 @@ use mathlib.Core.List.{List, Forall₂}
 use Prim.Native.Nat.{ℕ, _+_, _<_}
 use lib.ListN.{length}
 use Rattle.emath.specs.Rectangles.{zeroF}
-use Rattle.layout.specs.Steps.{WholeRect}
+use Rattle.region.specs.Steps.{WholeRect}
 use Rattle.grid.specs.Memories.{colWidth}
 use Rattle.grid.specs.declared.Memory.{Memory}
 use Rattle.sheet.specs.Pass.{Sheet, Cell, Outcome, pass}

@@ -6,7 +6,7 @@ use lib.Signed.{_≤ℤ_}
 use lib.Ieee.{Float, le}
 use Rattle.emath.specs.Rectangles.{zeroF}
 use Rattle.emath.specs.declared.Align.{Align}
-use Rattle.layout.specs.Steps.{strip}
+use Rattle.layout.specs.Strips.{strip}
 use Rattle.records.specs.declared.Step.{Step}
 use Rattle.records.specs.declared.Step.the-variants.{Widget, RowEnd}
 use Rattle.sheet.specs.Pass.{Sheet}

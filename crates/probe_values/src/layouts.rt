@@ -20,13 +20,13 @@ use crate::rects::put_vec2;
 use emath::Pos2;
 use emath::Rect;
 use emath::Vec2;
-use layout::Direction;
 use layout::Layout;
-use layout::PosAnswer;
-use layout::RectAnswer;
-use layout::Region;
-use layout::RegionAnswer;
-use layout::SizeAnswer;
+use region::Direction;
+use region::PosAnswer;
+use region::RectAnswer;
+use region::Region;
+use region::RegionAnswer;
+use region::SizeAnswer;
 
 pub fn direction_of(n: usize) -> Direction {
     match n {

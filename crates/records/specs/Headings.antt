@@ -3,7 +3,7 @@ use Prim.Native.Nat.{ℕ}
 use mathlib.Core.List.{List}
 use mathlib.Core.Bool.{Bool, cond}
 use lib.Dec.{eqb}
-use Rattle.layout.specs.Rules.{zeroVec}
+use Rattle.region.specs.Regions.{zeroVec}
 use Rattle.text.specs.Letters as letters
 use Rattle.records.specs.declared.GridOptions.{GridOptions}
 use Rattle.records.specs.declared.Heading.{Heading}

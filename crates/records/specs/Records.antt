@@ -11,8 +11,8 @@ use Rattle.emath.specs.declared.Align.{Align}
 use Rattle.emath.specs.declared.Align.the-variants.{Min, Center, Max}
 use Rattle.emath.specs.declared.Vec2.{Vec2}
 use Rattle.emath.specs.declared.Rect.{Rect}
-use Rattle.layout.specs.declared.Direction.{Direction}
-use Rattle.layout.specs.declared.Direction.the-variants.{LeftToRight, RightToLeft, TopDown, BottomUp}
+use Rattle.region.specs.declared.Direction.{Direction}
+use Rattle.region.specs.declared.Direction.the-variants.{LeftToRight, RightToLeft, TopDown, BottomUp}
 use Rattle.layout.specs.declared.Layout.{Layout}
 use Rattle.text.specs.Letters as letters
 use Rattle.text.specs.declared.Field.{Field}

@@ -8,7 +8,7 @@ use lib.Dec.{eqb}
 use borrow.Author.Tests.{eqb-false}
 use Rattle.emath.specs.Refusals.{rectFault}
 use Rattle.emath.proofs.Refusals.{or-none}
-use Rattle.layout.specs.Refusals.{zeroRect}
+use Rattle.region.specs.Refusals.{zeroRect}
 use Rattle.grid.specs.Grids.{newGrid, save}
 use Rattle.grid.specs.Refusals.{gridAnswer}
 use Rattle.grid.specs.Operations.{checkedNew as checkedNewGrid}

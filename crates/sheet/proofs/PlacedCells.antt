@@ -6,7 +6,7 @@ use mathlib.Core.Bool.{Bool, true, false}
 use Rattle.emath.specs.Refusals.{frameFault, edgesFault}
 use Rattle.emath.specs.declared.Rect.{Rect}
 use Rattle.emath.specs.declared.Vec2.{Vec2}
-use Rattle.layout.specs.Steps.{WholeRect}
+use Rattle.region.specs.Steps.{WholeRect}
 use Rattle.layout.proofs.WholeFrames.{next-frame-whole, justify-and-align-whole}
 use Rattle.grid.proofs.Cells.{next-cell-whole, align-size-within-rect-whole}
 use Rattle.placer.specs.Rules.{nextSpace, justifyAndAlign}

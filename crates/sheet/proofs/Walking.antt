@@ -10,7 +10,7 @@ use lib.IntN.{ℤ}
 use lib.ListN.{length, drop, length-drop, drop-of-length-le}
 use Rattle.emath.specs.Steps.{tick}
 use Rattle.emath.specs.declared.Vec2.{Vec2}
-use Rattle.layout.specs.Steps.{WholeRect}
+use Rattle.region.specs.Steps.{WholeRect}
 use Rattle.placer.specs.Refusals.{placerFault}
 use Rattle.placer.specs.declared.Placer.{Placer}
 use Rattle.records.specs.Records.{recordOf, recordAt, rest, nextAt}

@@ -7,7 +7,7 @@ use lib.Dec.{eqb}
 use Rattle.emath.specs.Refusals.{least, orElse, pairFault, sizeFault, edgesFault, outside, frameFault}
 use Rattle.emath.specs.declared.Rect.{Rect}
 use Rattle.emath.specs.declared.Vec2.{Vec2}
-use Rattle.layout.specs.Refusals.{zeroRect}
+use Rattle.region.specs.Refusals.{zeroRect}
 use Rattle.grid.specs.Operations.{checkedNew as checkedNewGrid}
 use Rattle.grid.specs.declared.Memory.{Memory}
 use Rattle.grid.specs.declared.GridAnswer.{GridAnswer}

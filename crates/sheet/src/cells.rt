@@ -6,7 +6,7 @@ ghost use Prim.Native.Nat.{_+_, _*_, _≤_, _<_};
 ghost use lib.ListN.{length};
 ghost use lib.Seq.{sets};
 ghost use Rattle.emath.specs.Steps.{tick, Edge};
-ghost use Rattle.layout.specs.Steps.{WholeRect};
+ghost use Rattle.region.specs.Steps.{WholeRect};
 ghost use Rattle.sheet.specs.Ticks.{ticks};
 ghost use Rattle.sheet.specs.Implementation.Walks.{eightOf, putAt};
 

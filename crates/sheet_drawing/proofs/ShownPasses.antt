@@ -12,7 +12,7 @@ use lib.Ieee.{Float}
 use lib.ListN.{length, getD, take, length-append, length-take}
 use Rattle.emath.specs.Steps.{Edge}
 use Rattle.emath.specs.declared.Rect.{Rect}
-use Rattle.layout.specs.Steps.{WholeRect}
+use Rattle.region.specs.Steps.{WholeRect}
 use Rattle.grid.specs.Memories.{emptyMemory, widths, heights}
 use Rattle.grid.specs.declared.Memory.{Memory}
 use Rattle.text.specs.Lines.{texts, line}

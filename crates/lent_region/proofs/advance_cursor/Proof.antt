@@ -37,11 +37,11 @@ use denote.Triple.Walked.{says, Stays, stay-ref, stay-none, walkOf, AllGo, goes-
 use denote.Exit.{yes}
 use Rattle.layout.specs.Operations.{checkedAdvanceCursor}
 use Rattle.layout.specs.declared.Layout.{Layout}
-use Rattle.layout.specs.declared.Region.{Region}
-use Rattle.layout.specs.declared.RegionAnswer.{RegionAnswer}
+use Rattle.region.specs.declared.Region.{Region}
+use Rattle.region.specs.declared.RegionAnswer.{RegionAnswer}
 use Rattle.layout.proofs.Layout as L
 use Rattle.layout.proofs.Layout.Laws as L′
-use Rattle.layout.proofs.Region as T
+use Rattle.region.proofs.Region as T
 use Rattle.layout.proofs.Layout.advance_cursor as call
 use Rattle.layout.proofs.Layout.advance_cursor.Symbol as call-def
 use Rattle.layout.proofs.Layout.advance_cursor.Symbol.{name as #call}

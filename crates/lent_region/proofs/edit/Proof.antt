@@ -41,18 +41,18 @@ use denote.Exit.{yes}
 use Rattle.emath.specs.declared.Vec2.{Vec2}
 use Rattle.layout.specs.Operations.{checkedAdvanceCursor, checkedEndRow}
 use Rattle.layout.specs.declared.Layout.{Layout}
-use Rattle.layout.specs.declared.Region.{Region}
-use Rattle.layout.specs.declared.RegionAnswer.{RegionAnswer}
+use Rattle.region.specs.declared.Region.{Region}
+use Rattle.region.specs.declared.RegionAnswer.{RegionAnswer}
 use Rattle.lent_region.specs.declared.Edited.{Edited}
 use Rattle.lent_region.specs.Edits.{edited}
 use Rattle.emath.proofs.Vec2 as Vec
 use Rattle.emath.proofs.Vec2.Laws as Vec′
 use Rattle.layout.proofs.Layout as L
 use Rattle.layout.proofs.Layout.Laws as L′
-use Rattle.layout.proofs.Region as T
-use Rattle.layout.proofs.Region.Laws as T′
-use Rattle.layout.proofs.RegionAnswer as R
-use Rattle.layout.proofs.RegionAnswer.Laws as R′
+use Rattle.region.proofs.Region as T
+use Rattle.region.proofs.Region.Laws as T′
+use Rattle.region.proofs.RegionAnswer as R
+use Rattle.region.proofs.RegionAnswer.Laws as R′
 use Rattle.lent_region.proofs.Edited as D
 use Rattle.lent_region.proofs.Edited.Laws as D′
 use Rattle.lent_region.proofs.Lending.{layoutVal, regionVal, numberVal}

@@ -36,13 +36,13 @@ use denote.Exit.{yes}
 use Rattle.emath.specs.declared.Vec2.{Vec2}
 use Rattle.layout.specs.Operations.{checkedEndRow}
 use Rattle.layout.specs.declared.Layout.{Layout}
-use Rattle.layout.specs.declared.Region.{Region}
-use Rattle.layout.specs.declared.RegionAnswer.{RegionAnswer}
+use Rattle.region.specs.declared.Region.{Region}
+use Rattle.region.specs.declared.RegionAnswer.{RegionAnswer}
 use Rattle.emath.proofs.Vec2 as Vec
 use Rattle.emath.proofs.Vec2.Laws as Vec′
 use Rattle.layout.proofs.Layout as L
 use Rattle.layout.proofs.Layout.Laws as L′
-use Rattle.layout.proofs.Region as T
+use Rattle.region.proofs.Region as T
 use Rattle.layout.proofs.Layout.end_row as call
 use Rattle.layout.proofs.Layout.end_row.Symbol as call-def
 use Rattle.layout.proofs.Layout.end_row.Symbol.{name as #call}

@@ -9,7 +9,7 @@ use lib.Seq.{sets}
 use lib.Ieee.{Float}
 use Rattle.emath.specs.Steps.{tick, Edge}
 use Rattle.emath.specs.declared.Rect.{Rect}
-use Rattle.layout.specs.Steps.{WholeRect}
+use Rattle.region.specs.Steps.{WholeRect}
 use Rattle.grid.specs.Memories.{widths, heights}
 use Rattle.grid.specs.declared.Memory.{Memory}
 use Rattle.records.specs.Parts.{letter}

@@ -5,9 +5,9 @@ use mathlib.Core.List.{List}
 use lib.Ieee.{Float}
 use Rattle.emath.specs.Refusals.{lesser, extentFault}
 use Rattle.emath.specs.declared.Rect.{Rect}
-use Rattle.layout.specs.Refusals.{regionFault}
+use Rattle.region.specs.Refusals.{regionFault}
 use Rattle.layout.specs.declared.Layout.{Layout}
-use Rattle.layout.specs.declared.Region.{Region}
+use Rattle.region.specs.declared.Region.{Region}
 use Rattle.grid.specs.Implementation.Lent.{gridOf, notedSize, bareOf as bareGrid, spotOf as gridSpot}
 use Rattle.grid.specs.declared.GridLayout.{GridLayout}
 use Rattle.placer.specs.declared.Placer.{Placer}

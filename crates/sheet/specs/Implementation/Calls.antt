@@ -9,7 +9,7 @@ use Rattle.emath.specs.Steps.{tick}
 use Rattle.emath.specs.Refusals.{least, sizeFault, pairFault, edgesFault, outside, frameFault}
 use Rattle.emath.specs.declared.Rect.{Rect}
 use Rattle.emath.specs.declared.Vec2.{Vec2}
-use Rattle.layout.specs.Refusals.{zeroRect}
+use Rattle.region.specs.Refusals.{zeroRect}
 use Rattle.placer.specs.Refusals.{placerFault, advanceFault}
 use Rattle.placer.specs.Operations.{checkedAdvanceCursor, checkedEndRow, checkedSetRowHeight, checkedSetMaxWidth, checkedSetMaxHeight, checkedSetMinWidth, checkedSetMinHeight}
 use Rattle.placer.specs.Implementation.Lent.{placerOf}

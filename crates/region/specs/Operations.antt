@@ -1,0 +1,32 @@
+-- Region's public calls: the least number that applies to the arguments, or else to the answer, or else what the rule gives.
+use Prim.Native.Nat.{ℕ}
+use mathlib.Core.List.{[], _∷_}
+use lib.Ieee.{Float}
+use Rattle.emath.specs.Refusals.{least, orElse, lengthFault, edgesFault, rectFault, outside, frameFault}
+use Rattle.region.specs.Regions.{expandToIncludeRect, expandToIncludeX, expandToIncludeY}
+use Rattle.region.specs.Refusals.{regionFault, rectAnswer, regionAnswer}
+use Rattle.emath.specs.declared.Rect.{Rect}
+use Rattle.region.specs.declared.Direction.{Direction}
+use Rattle.region.specs.declared.Region.{Region}
+use Rattle.region.specs.declared.RectAnswer.{RectAnswer}
+use Rattle.region.specs.declared.RegionAnswer.{RegionAnswer}
+
+-- ---- a rectangle that is not a frame, a frame, a new region
+unfoldable pub placed : ℕ → Rect → RectAnswer
+placed before r = rectAnswer (orElse before (outside (edgesFault r))) r
+
+unfoldable pub framed : ℕ → Rect → RectAnswer
+framed before r = rectAnswer (orElse before (frameFault r)) r
+
+unfoldable pub moved : Direction → ℕ → Region → Region → RegionAnswer
+moved d before given new = regionAnswer (orElse before (outside (regionFault d new))) given new
+
+-- ---- Region: the direction says which edge of its cursor is open
+unfoldable pub checkedExpandToIncludeRect : Direction → Region → Rect → RegionAnswer
+checkedExpandToIncludeRect d g r = moved d (least (regionFault d g ∷ rectFault r ∷ [])) g (expandToIncludeRect g r)
+
+unfoldable pub checkedExpandToIncludeX : Direction → Region → Float → RegionAnswer
+checkedExpandToIncludeX d g x = moved d (least (regionFault d g ∷ lengthFault x ∷ [])) g (expandToIncludeX g x)
+
+unfoldable pub checkedExpandToIncludeY : Direction → Region → Float → RegionAnswer
+checkedExpandToIncludeY d g y = moved d (least (regionFault d g ∷ lengthFault y ∷ [])) g (expandToIncludeY g y)

@@ -1,5 +1,6 @@
 -- layout.rs, "Constructors" and "Inspectors".
 use mathlib.Core.Bool.{Bool, true, false, cond, not, _&&_, _||_}
+use Rattle.region.specs.Directions.{isHorizontal}
 use Rattle.emath.specs.declared.Align.{Align}
 use Rattle.emath.specs.declared.Align.the-variants.{Min, Center, Max}
 use Rattle.emath.specs.declared.Align2.{Align2}

@@ -5,6 +5,7 @@ use mathlib.Core.List.{[], _∷_}
 use lib.Ieee.{Float}
 use Rattle.emath.specs.Refusals.{least, orElse, lengthFault, pairFault, sizeFault, rectFault, outside}
 use Rattle.layout.specs.Rules.{alignSizeWithinRect, initialCursor, availableFromCursorMaxRect, availableRectBeforeWrap, availableSize, nextFrameIgnoreWrap, nextFrame, justifyAndAlign, nextWidgetSpaceIgnoreWrapJustify, nextWidgetPosition, regionFromMaxRect, advanceCursor, advanceAfterRects, endRow, setRowHeight}
+use Rattle.region.specs.Operations.{placed, framed, moved}
 use Rattle.region.specs.Refusals.{cursorFault, regionFault, zeroRegion, rectAnswer, posAnswer, sizeAnswer, cursorAnswer}
 use Rattle.emath.specs.declared.Rect.{Rect}
 use Rattle.emath.specs.declared.Vec2.{Vec2}

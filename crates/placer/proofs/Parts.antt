@@ -3,6 +3,7 @@ use mathlib.Core.Path.{_≡_, refl}
 use mathlib.Core.Bool.{Bool, true, false, cond}
 use Rattle.emath.specs.declared.Rect.{Rect}
 use Rattle.emath.specs.declared.Vec2.{Vec2}
+use Rattle.region.specs.Regions as regions
 use Rattle.layout.specs.Rules as layout-rules
 use Rattle.region.specs.Regions.{withCursor}
 use Rattle.region.specs.declared.Region.{Region}
@@ -23,7 +24,7 @@ module _ (p : Placer) (f w : Rect) (sp : Vec2) where
   moved-cursor true = refl
   moved-cursor false = refl
 
-  pub region-past : layout-rules.expandToIncludeRect (withCursor (p .region) (movedPast p f w sp .region .cursor)) f ≡ advanceAfterRects p f w sp .region
+  pub region-past : regions.expandToIncludeRect (withCursor (p .region) (movedPast p f w sp .region .cursor)) f ≡ advanceAfterRects p f w sp .region
   unfolding advanceAfterRects expandToIncludeRect movedPast
   region-past = rw (moved-cursor (p .«has_grid»))
 

@@ -6,6 +6,7 @@ use Prim.Native.Nat.{ℕ, _≤_}
 use native.Mathlib.Omega.{arith}
 use lib.Ieee.{Float}
 use Rattle.emath.specs.Steps.{Edge}
+use Rattle.region.specs.Regions as regions
 use Rattle.layout.specs.Rules as layout-rules
 use Rattle.region.specs.Regions.{withCursor}
 use Rattle.region.specs.Refusals.{cursorFault, regionFault}
@@ -56,26 +57,26 @@ module _ (k : ℕ) (l : k ≤ 6) where
 
   pub expand-rect-whole-steps : (p : Placer) (r : Rect) → WholePlacer k p → WholeRect k r → placerFault (expandToIncludeRect p r) ≡ 0 → WholePlacer k (expandToIncludeRect p r)
   unfolding expandToIncludeRect
-  expand-rect-whole-steps p r w e h = expand-to-include-rect-whole k (omega arith) (p .layout .«main_dir») (p .region) r w e (placer-region (withRegion p (layout-rules.expandToIncludeRect (p .region) r)) h)
+  expand-rect-whole-steps p r w e h = expand-to-include-rect-whole k (omega arith) (p .layout .«main_dir») (p .region) r w e (placer-region (withRegion p (regions.expandToIncludeRect (p .region) r)) h)
 
   pub expand-x-whole-steps : (p : Placer) (x : Float) → WholePlacer k p → Edge k x → placerFault (expandToIncludeX p x) ≡ 0 → WholePlacer k (expandToIncludeX p x)
   unfolding expandToIncludeX
-  expand-x-whole-steps p x w e h = expand-to-include-x-whole k (omega arith) (p .layout .«main_dir») (p .region) x w e (placer-region (withRegion p (layout-rules.expandToIncludeX (p .region) x)) h)
+  expand-x-whole-steps p x w e h = expand-to-include-x-whole k (omega arith) (p .layout .«main_dir») (p .region) x w e (placer-region (withRegion p (regions.expandToIncludeX (p .region) x)) h)
 
   pub expand-y-whole-steps : (p : Placer) (y : Float) → WholePlacer k p → Edge k y → placerFault (expandToIncludeY p y) ≡ 0 → WholePlacer k (expandToIncludeY p y)
   unfolding expandToIncludeY
-  expand-y-whole-steps p y w e h = expand-to-include-y-whole k (omega arith) (p .layout .«main_dir») (p .region) y w e (placer-region (withRegion p (layout-rules.expandToIncludeY (p .region) y)) h)
+  expand-y-whole-steps p y w e h = expand-to-include-y-whole k (omega arith) (p .layout .«main_dir») (p .region) y w e (placer-region (withRegion p (regions.expandToIncludeY (p .region) y)) h)
 
   -- ---- advance_after_rects: a frame included after the cursor was moved to c
   included : (p : Placer) (c f : Rect) → WholePlacer k p → WholeRect k f → (cursorFault (p .layout .«main_dir») c ≡ 0 → WholeCursor k (p .layout .«main_dir») c)
-      → regionFault (p .layout .«main_dir») (layout-rules.expandToIncludeRect (withCursor (p .region) c) f) ≡ 0 → WholeRegion k (p .layout .«main_dir») (layout-rules.expandToIncludeRect (withCursor (p .region) c) f)
+      → regionFault (p .layout .«main_dir») (regions.expandToIncludeRect (withCursor (p .region) c) f) ≡ 0 → WholeRegion k (p .layout .«main_dir») (regions.expandToIncludeRect (withCursor (p .region) c) f)
   included p c f w e m h =
       let d = p .layout .«main_dir» in
       let n : cursorFault d c ≡ 0 = cursor-of d (withCursor (p .region) c) h in
       expand-to-include-rect-whole k (omega arith) d (withCursor (p .region) c) f (record { inner = w .inner; outer = w .outer; cursor = m n }) e h
     where
-      cursor-of : (d : Direction) (g : Region) → regionFault d (layout-rules.expandToIncludeRect g f) ≡ 0 → cursorFault d (g .cursor) ≡ 0
-      cursor-of d g h = unfold layout-rules.expandToIncludeRect in region-none d (layout-rules.expandToIncludeRect g f) h .2
+      cursor-of : (d : Direction) (g : Region) → regionFault d (regions.expandToIncludeRect g f) ≡ 0 → cursorFault d (g .cursor) ≡ 0
+      cursor-of d g h = unfold regions.expandToIncludeRect in region-none d (regions.expandToIncludeRect g f) h .2
 
   pub advance-after-rects-layout : (p : Placer) (f v : Rect) (sp : Vec2) → p .«has_grid» ≡ false → WholePlacer k p → WholeRect k f → WholeRect k v → WholeSize k sp
       → placerFault (advanceAfterRects p f v sp) ≡ 0 → WholePlacer k (advanceAfterRects p f v sp)
@@ -85,10 +86,10 @@ module _ (k : ℕ) (l : k ≤ 6) where
       c : Rect
       c = layout-rules.advanceAfterRects (p .layout) (p .region .cursor) f v sp
 
-      go : placerFault (placerOf false (p .grid) (p .layout) (layout-rules.expandToIncludeRect (withCursor (p .region) c) f)) ≡ 0
-          → WholeRegion k (p .layout .«main_dir») (layout-rules.expandToIncludeRect (withCursor (p .region) c) f)
+      go : placerFault (placerOf false (p .grid) (p .layout) (regions.expandToIncludeRect (withCursor (p .region) c) f)) ≡ 0
+          → WholeRegion k (p .layout .«main_dir») (regions.expandToIncludeRect (withCursor (p .region) c) f)
       go h = included p c f w F (λ (n : cursorFault (p .layout .«main_dir») c ≡ 0). advance-after-rects-whole k (omega arith) (p .layout) (p .region .cursor) f v sp (w .cursor) F W S n)
-          (placer-region (placerOf false (p .grid) (p .layout) (layout-rules.expandToIncludeRect (withCursor (p .region) c) f)) h)
+          (placer-region (placerOf false (p .grid) (p .layout) (regions.expandToIncludeRect (withCursor (p .region) c) f)) h)
 
   pub end-row-layout : (p : Placer) (sp : Vec2) → p .«has_grid» ≡ false → WholePlacer k p → WholeSize k sp → placerFault (endRow p sp) ≡ 0 → WholePlacer k (endRow p sp)
   unfolding endRow

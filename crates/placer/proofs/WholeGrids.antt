@@ -16,7 +16,7 @@ use Rattle.emath.proofs.Exact.{Small}
 use Rattle.emath.proofs.Values.{val-add}
 use Rattle.emath.proofs.Edges.{within-steps}
 use Rattle.emath.proofs.Refusals.{edges-within, rect-none}
-use Rattle.layout.specs.Rules as layout-rules
+use Rattle.region.specs.Regions as regions
 use Rattle.region.specs.Regions.{withCursor}
 use Rattle.region.specs.Refusals.{closed, cursorFault}
 use Rattle.region.specs.Steps.{WholeRect, WholeCursor, WholeRegion}
@@ -105,8 +105,8 @@ module _ (k : ℕ) (l : k ≤ 6) where
       go false = w
 
   -- ---- a placer in whole steps
-  included-if : (g : Region) (c f : Rect) → RectIf k l (g .«min_rect») → RectIf k l (g .«max_rect») → RectIf k l c → RectIf k l f → RegionIf k l (layout-rules.expandToIncludeRect (withCursor g c) f)
-  unfolding layout-rules.expandToIncludeRect
+  included-if : (g : Region) (c f : Rect) → RectIf k l (g .«min_rect») → RectIf k l (g .«max_rect») → RectIf k l c → RectIf k l f → RegionIf k l (regions.expandToIncludeRect (withCursor g c) f)
+  unfolding regions.expandToIncludeRect
   included-if g c f i o w e = record { inner = union-if k l (g .«min_rect») f i e; outer = union-if k l (g .«max_rect») f o e; cursor = w }
 
   pub advance-after-rects-grid : (p : Placer) (f v : Rect) (sp : Vec2) → p .«has_grid» ≡ true → fitsGrid (p .layout .«main_dir») ≡ true → WholePlacer k p → WholeAcross k (p .grid) → WholeRect k f
@@ -117,13 +117,13 @@ module _ (k : ℕ) (l : k ≤ 6) where
       c : Rect
       c = grid-rules.advance (p .grid) (p .region .cursor) v .cursor
 
-      go : placerFault (placerOf true (grid-rules.advance (p .grid) (p .region .cursor) v .grid) (p .layout) (layout-rules.expandToIncludeRect (withCursor (p .region) c) f)) ≡ 0
-          → WholeRegion k (p .layout .«main_dir») (layout-rules.expandToIncludeRect (withCursor (p .region) c) f)
+      go : placerFault (placerOf true (grid-rules.advance (p .grid) (p .region .cursor) v .grid) (p .layout) (regions.expandToIncludeRect (withCursor (p .region) c) f)) ≡ 0
+          → WholeRegion k (p .layout .«main_dir») (regions.expandToIncludeRect (withCursor (p .region) c) f)
       go h =
           let i = region-if k l (p .layout .«main_dir») (p .region) w in
-          region-whole k l (p .layout .«main_dir») (layout-rules.expandToIncludeRect (withCursor (p .region) c) f)
+          region-whole k l (p .layout .«main_dir») (regions.expandToIncludeRect (withCursor (p .region) c) f)
           (included-if (p .region) c f (i .inner) (i .outer) (past-cell (p .grid) (p .region .cursor) v (i .cursor) (left-edge k (p .layout .«main_dir») (p .region .cursor) d (w .cursor)) a) (rect-if k l f F))
-          (placer-region (placerOf true (grid-rules.advance (p .grid) (p .region .cursor) v .grid) (p .layout) (layout-rules.expandToIncludeRect (withCursor (p .region) c) f)) h)
+          (placer-region (placerOf true (grid-rules.advance (p .grid) (p .region .cursor) v .grid) (p .layout) (regions.expandToIncludeRect (withCursor (p .region) c) f)) h)
 
   pub end-row-grid : (p : Placer) (sp : Vec2) → p .«has_grid» ≡ true → fitsGrid (p .layout .«main_dir») ≡ true → WholePlacer k p → WholeAcross k (p .grid) → WholeDown k (p .grid)
       → placerFault (endRow p sp) ≡ 0 → WholePlacer k (endRow p sp)
@@ -176,8 +176,8 @@ module _ (k : ℕ) (l : k ≤ 6) where
 
   module _ (p : Placer) (d : fitsGrid (p .layout .«main_dir») ≡ true) (w : WholeTops k p) where
     pub advance-after-rects-tops : (f v : Rect) (sp : Vec2) → p .«has_grid» ≡ true → WholeRect k f → placerFault (advanceAfterRects p f v sp) ≡ 0 → WholeTops k (advanceAfterRects p f v sp)
-    unfolding advanceAfterRects movedPast setCursor expandToIncludeRect layout-rules.expandToIncludeRect
-    advance-after-rects-tops f v sp g F h = rw g (tops-whole (placerOf true (grid-rules.advance (p .grid) (p .region .cursor) v .grid) (p .layout) (layout-rules.expandToIncludeRect (withCursor (p .region) (grid-rules.advance (p .grid) (p .region .cursor) v .cursor)) f)) d
+    unfolding advanceAfterRects movedPast setCursor expandToIncludeRect regions.expandToIncludeRect
+    advance-after-rects-tops f v sp g F h = rw g (tops-whole (placerOf true (grid-rules.advance (p .grid) (p .region .cursor) v .grid) (p .layout) (regions.expandToIncludeRect (withCursor (p .region) (grid-rules.advance (p .grid) (p .region .cursor) v .cursor)) f)) d
         (record { inner = union-if k l (p .region .«min_rect») f (tops-if p w .inner) (rect-if k l f F); outer = union-if k l (p .region .«max_rect») f (tops-if p w .outer) (rect-if k l f F); top = rw (same-top (p .grid) (p .region .cursor) v) (edge-whole-if k l (w .top)) })
         (rw g at h))
 

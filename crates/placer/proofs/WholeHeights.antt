@@ -15,7 +15,7 @@ use Rattle.emath.specs.Steps.{Edge}
 use Rattle.emath.proofs.Tests.{T-of}
 use Rattle.emath.proofs.Refusals.{lesser-none, when-none}
 use Rattle.emath.proofs.Sums.{grid-edge, grid-sub}
-use Rattle.layout.specs.Rules as layout-rules
+use Rattle.region.specs.Regions as regions
 use Rattle.region.specs.Steps.{WholeRect}
 use Rattle.grid.specs.Entries.{entry, raised, entriesFault}
 use Rattle.grid.specs.Memories.{heights, raisedCount, setMinColWidth, setMinRowHeight, rowHeight}
@@ -174,7 +174,7 @@ module _ (k : ℕ) (l : k ≤ 6) where
       → placerFault (advanceAfterRects p f v sp) ≡ 0 → WholeDown k (advanceAfterRects p f v sp .grid)
   unfolding advanceAfterRects movedPast setCursor expandToIncludeRect
   advance-after-rects-down p f v sp g s d r h = rw g (advance-heights (p .grid) (p .region .cursor) v s d r
-      (placer-grid (record { «has_grid» = true; grid = grid-rules.advance (p .grid) (p .region .cursor) v .grid; layout = p .layout; region = layout-rules.expandToIncludeRect (layout-rules.withCursor (p .region) (grid-rules.advance (p .grid) (p .region .cursor) v .cursor)) f }) refl (rw g at h)))
+      (placer-grid (record { «has_grid» = true; grid = grid-rules.advance (p .grid) (p .region .cursor) v .grid; layout = p .layout; region = regions.expandToIncludeRect (regions.withCursor (p .region) (grid-rules.advance (p .grid) (p .region .cursor) v .cursor)) f }) refl (rw g at h)))
 
   pub end-row-down : (p : Placer) (sp : Vec2) → p .«has_grid» ≡ true → WholeDown k (p .grid) → WholeDown k (endRow p sp .grid)
   unfolding endRow setCursor

@@ -16,6 +16,7 @@ use Rattle.emath.proofs.MinMax.{min-one-of, max-one-of}
 use Rattle.emath.proofs.Edges.{round-edge}
 use Rattle.emath.proofs.Sums.{grid-edge, zero-grid}
 use Rattle.emath.proofs.Refusals.{edges-within, rect-none}
+use Rattle.region.specs.Regions as regions
 use Rattle.layout.specs.Rules as layout-rules
 use Rattle.region.specs.Regions.{infinity}
 use Rattle.layout.specs.Layouts.{align2}
@@ -147,12 +148,12 @@ module _ (k : ℕ) (l : k ≤ 6) where
   unfolding extendWithY
   y-if r y w e = record { left = w .left; top = min-whole-if (w .top) e; right = w .right; bottom = max-whole-if (w .bottom) e }
 
-  pub region-x : (g : Region) (x : Float) → RegionIf g → WholeIf k x → RegionIf (layout-rules.expandToIncludeX g x)
-  unfolding layout-rules.expandToIncludeX
+  pub region-x : (g : Region) (x : Float) → RegionIf g → WholeIf k x → RegionIf (regions.expandToIncludeX g x)
+  unfolding regions.expandToIncludeX
   region-x g x w e = record { inner = x-if (g .«min_rect») x (w .inner) e; outer = x-if (g .«max_rect») x (w .outer) e; cursor = x-if (g .cursor) x (w .cursor) e }
 
-  pub region-y : (g : Region) (y : Float) → RegionIf g → WholeIf k y → RegionIf (layout-rules.expandToIncludeY g y)
-  unfolding layout-rules.expandToIncludeY
+  pub region-y : (g : Region) (y : Float) → RegionIf g → WholeIf k y → RegionIf (regions.expandToIncludeY g y)
+  unfolding regions.expandToIncludeY
   region-y g y w e = record { inner = y-if (g .«min_rect») y (w .inner) e; outer = y-if (g .«max_rect») y (w .outer) e; cursor = y-if (g .cursor) y (w .cursor) e }
 
   pub limited-across : (g : Region) (r : Rect) → RegionIf g → RectIf r → RegionIf (limitedAcross g r)
@@ -193,13 +194,13 @@ module _ (k : ℕ) (l : k ≤ 6) where
       r = nextWidgetSpaceIgnoreWrapJustify k p (record { x = v; y = zeroF })
 
       grown : Region
-      grown = layout-rules.expandToIncludeX (layout-rules.expandToIncludeX (p .region) (r .left)) (r .right)
+      grown = regions.expandToIncludeX (regions.expandToIncludeX (p .region) (r .left)) (r .right)
 
       go : (b : Bool) → placerFault (cond b p (withRegion p grown)) ≡ 0 → WholePlacer k (cond b p (withRegion p grown))
       go true h = w
       go false h =
           let s = space-if p (record { x = v; y = zeroF }) in
-          after p grown (region-x (layout-rules.expandToIncludeX (p .region) (r .left)) (r .right) (region-x (p .region) (r .left) (region-if (p .layout .«main_dir») (p .region) w) (s .left)) (s .right)) h
+          after p grown (region-x (regions.expandToIncludeX (p .region) (r .left)) (r .right) (region-x (p .region) (r .left) (region-if (p .layout .«main_dir») (p .region) w) (s .left)) (s .right)) h
 
   pub set-min-height-whole : (p : Placer) (v : Float) → WholePlacer k p → placerFault (setMinHeight k p v) ≡ 0 → WholePlacer k (setMinHeight k p v)
   unfolding setMinHeight grownDown expandToIncludeY
@@ -209,10 +210,10 @@ module _ (k : ℕ) (l : k ≤ 6) where
       r = nextWidgetSpaceIgnoreWrapJustify k p (record { x = zeroF; y = v })
 
       grown : Region
-      grown = layout-rules.expandToIncludeY (layout-rules.expandToIncludeY (p .region) (r .top)) (r .bottom)
+      grown = regions.expandToIncludeY (regions.expandToIncludeY (p .region) (r .top)) (r .bottom)
 
       go : (b : Bool) → placerFault (cond b p (withRegion p grown)) ≡ 0 → WholePlacer k (cond b p (withRegion p grown))
       go true h = w
       go false h =
           let s = space-if p (record { x = zeroF; y = v }) in
-          after p grown (region-y (layout-rules.expandToIncludeY (p .region) (r .top)) (r .bottom) (region-y (p .region) (r .top) (region-if (p .layout .«main_dir») (p .region) w) (s .top)) (s .bottom)) h
+          after p grown (region-y (regions.expandToIncludeY (p .region) (r .top)) (r .bottom) (region-y (p .region) (r .top) (region-if (p .layout .«main_dir») (p .region) w) (s .top)) (s .bottom)) h

@@ -6,6 +6,7 @@ use Prim.Native.Nat.{ℕ, _≤_}
 use lib.Ieee.{Float, binary32, add, le}
 use Rattle.emath.specs.Rectangles.{zeroF, extendWithX, extendWithY}
 use Rattle.emath.specs.Steps.{Edge}
+use Rattle.region.specs.Regions as regions
 use Rattle.layout.specs.Rules as layout-rules
 use Rattle.region.specs.Regions.{withCursor, setBottom}
 use Rattle.region.specs.Directions.{isHorizontal}
@@ -30,19 +31,19 @@ module _ (k : ℕ) (l : k ≤ 6) (p : Placer) (d : fitsGrid (p .layout .«main_d
   set-cursor-tops c e = record { inner = w .inner; outer = w .outer; top = e }
 
   pub expand-rect-tops : (r : Rect) → WholeRect k r → placerFault (expandToIncludeRect p r) ≡ 0 → WholeTops k (expandToIncludeRect p r)
-  unfolding expandToIncludeRect layout-rules.expandToIncludeRect
+  unfolding expandToIncludeRect regions.expandToIncludeRect
   expand-rect-tops r e h =
       let i = tops-if k l p w in
       let f = rect-if k l r e in
       tops-whole k l (expandToIncludeRect p r) d (record { inner = union-if k l (p .region .«min_rect») r (i .inner) f; outer = union-if k l (p .region .«max_rect») r (i .outer) f; top = i .top }) h
 
   -- by one value, across or down
-  x-tops : (g : Region) (x : Float) → TopsIf k l g → WholeIf k x → TopsIf k l (layout-rules.expandToIncludeX g x)
-  unfolding layout-rules.expandToIncludeX extendWithX
+  x-tops : (g : Region) (x : Float) → TopsIf k l g → WholeIf k x → TopsIf k l (regions.expandToIncludeX g x)
+  unfolding regions.expandToIncludeX extendWithX
   x-tops g x i e = record { inner = x-if k l (g .«min_rect») x (i .inner) e; outer = x-if k l (g .«max_rect») x (i .outer) e; top = i .top }
 
-  y-tops : (g : Region) (y : Float) → TopsIf k l g → WholeIf k y → TopsIf k l (layout-rules.expandToIncludeY g y)
-  unfolding layout-rules.expandToIncludeY extendWithY
+  y-tops : (g : Region) (y : Float) → TopsIf k l g → WholeIf k y → TopsIf k l (regions.expandToIncludeY g y)
+  unfolding regions.expandToIncludeY extendWithY
   y-tops g y i e = record { inner = y-if k l (g .«min_rect») y (i .inner) e; outer = y-if k l (g .«max_rect») y (i .outer) e; top = min-whole-if k l (i .top) e }
 
   pub expand-x-tops : (x : Float) → Edge k x → placerFault (expandToIncludeX p x) ≡ 0 → WholeTops k (expandToIncludeX p x)
@@ -61,13 +62,13 @@ module _ (k : ℕ) (l : k ≤ 6) (p : Placer) (d : fitsGrid (p .layout .«main_d
       r = nextWidgetSpaceIgnoreWrapJustify k p (record { x = v; y = zeroF })
 
       grown : Region
-      grown = layout-rules.expandToIncludeX (layout-rules.expandToIncludeX (p .region) (r .left)) (r .right)
+      grown = regions.expandToIncludeX (regions.expandToIncludeX (p .region) (r .left)) (r .right)
 
       go : (b : Bool) → placerFault (cond b p (withRegion p grown)) ≡ 0 → WholeTops k (cond b p (withRegion p grown))
       go true h = w
       go false h =
           let s = space-if k l p (record { x = v; y = zeroF }) in
-          tops-whole k l (withRegion p grown) d (x-tops (layout-rules.expandToIncludeX (p .region) (r .left)) (r .right) (x-tops (p .region) (r .left) (tops-if k l p w) (s .left)) (s .right)) h
+          tops-whole k l (withRegion p grown) d (x-tops (regions.expandToIncludeX (p .region) (r .left)) (r .right) (x-tops (p .region) (r .left) (tops-if k l p w) (s .left)) (s .right)) h
 
   pub set-min-height-tops : (v : Float) → placerFault (setMinHeight k p v) ≡ 0 → WholeTops k (setMinHeight k p v)
   unfolding setMinHeight grownDown expandToIncludeY
@@ -77,13 +78,13 @@ module _ (k : ℕ) (l : k ≤ 6) (p : Placer) (d : fitsGrid (p .layout .«main_d
       r = nextWidgetSpaceIgnoreWrapJustify k p (record { x = zeroF; y = v })
 
       grown : Region
-      grown = layout-rules.expandToIncludeY (layout-rules.expandToIncludeY (p .region) (r .top)) (r .bottom)
+      grown = regions.expandToIncludeY (regions.expandToIncludeY (p .region) (r .top)) (r .bottom)
 
       go : (b : Bool) → placerFault (cond b p (withRegion p grown)) ≡ 0 → WholeTops k (cond b p (withRegion p grown))
       go true h = w
       go false h =
           let s = space-if k l p (record { x = zeroF; y = v }) in
-          tops-whole k l (withRegion p grown) d (y-tops (layout-rules.expandToIncludeY (p .region) (r .top)) (r .bottom) (y-tops (p .region) (r .top) (tops-if k l p w) (s .top)) (s .bottom)) h
+          tops-whole k l (withRegion p grown) d (y-tops (regions.expandToIncludeY (p .region) (r .top)) (r .bottom) (y-tops (p .region) (r .top) (tops-if k l p w) (s .top)) (s .bottom)) h
 
   pub set-row-height-tops : (v : Float) → WholeTops k (setRowHeight p v)
   unfolding setRowHeight layout-rules.setRowHeight

@@ -6,6 +6,7 @@ use Rattle.emath.specs.Rectangles.{zeroF, sizeOf, center, union, roundRect}
 use Rattle.emath.specs.declared.Rect.{Rect}
 use Rattle.emath.specs.declared.Vec2.{Vec2}
 use Rattle.emath.specs.declared.Pos2.{Pos2}
+use Rattle.region.specs.Regions as regions
 use Rattle.layout.specs.Rules as layout-rules
 use Rattle.region.specs.Regions.{zeroVec, withCursor}
 use Rattle.layout.specs.declared.Layout.{Layout}
@@ -67,13 +68,13 @@ advanceCursor p a = withRegion p (layout-rules.advanceCursor (p .layout .«main_
 
 -- ---- expand_to_include_…
 unfoldable pub expandToIncludeRect : Placer → Rect → Placer
-expandToIncludeRect p r = withRegion p (layout-rules.expandToIncludeRect (p .region) r)
+expandToIncludeRect p r = withRegion p (regions.expandToIncludeRect (p .region) r)
 
 unfoldable pub expandToIncludeX : Placer → Float → Placer
-expandToIncludeX p x = withRegion p (layout-rules.expandToIncludeX (p .region) x)
+expandToIncludeX p x = withRegion p (regions.expandToIncludeX (p .region) x)
 
 unfoldable pub expandToIncludeY : Placer → Float → Placer
-expandToIncludeY p y = withRegion p (layout-rules.expandToIncludeY (p .region) y)
+expandToIncludeY p y = withRegion p (regions.expandToIncludeY (p .region) y)
 
 -- ---- advance_after_rects: the cursor is moved by the grid or the layout, then min_rect and max_rect include the frame
 unfoldable pub movedPast : Placer → Rect → Rect → Vec2 → Placer

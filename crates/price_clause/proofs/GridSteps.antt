@@ -12,7 +12,7 @@ use Rattle.emath.proofs.Tests.{is-lt}
 use Rattle.emath.proofs.Refusals.{lesser-none, when-none, edges-within, frame-none}
 use Rattle.emath.specs.declared.Rect.{Rect}
 use Rattle.emath.specs.declared.Vec2.{Vec2}
-use Rattle.layout.specs.Rules as layout-rules
+use Rattle.region.specs.Regions as regions
 use Rattle.region.specs.Refusals.{regionFault, closed, cursorFault}
 use Rattle.region.proofs.Answers.{region-none}
 use Rattle.region.specs.declared.Direction.{Direction}
@@ -59,7 +59,7 @@ pub record InGrid (p : Placer) : Type 0 where
 
 past-spot : (sp : Vec2) (p : Placer) (c : Cell) → p .«has_grid» ≡ true → p .grid .col < 32 → p .grid .row < 128
     → spotOf (pastCell sp p c) ≡ spotAt (advanced (p .grid) (p .region .cursor) (c .widget) .grid) (advanced (p .grid) (p .region .cursor) (c .widget) .cursor) (union (p .region .«min_rect») (c .frame))
-unfolding advanceAfterRects movedPast setCursor expandToIncludeRect layout-rules.expandToIncludeRect grid-rules.advance
+unfolding advanceAfterRects movedPast setCursor expandToIncludeRect regions.expandToIncludeRect grid-rules.advance
 past-spot sp p c g i j = rw (g, is-lt (p .grid .col) 32 i, is-lt (p .grid .row) 128 j)
 
 pub record CellMove (k : ℕ) (p q : Placer) (w h : Float) (c : Cell) : Type 0 where

@@ -22,6 +22,7 @@ use Rattle.emath.proofs.Refusals.{lesser-none, edges-within, frame-none}
 use Rattle.emath.specs.declared.Rect.{Rect}
 use Rattle.emath.specs.declared.Vec2.{Vec2}
 use Rattle.emath.specs.declared.Align.{Align}
+use Rattle.region.specs.Regions as regions
 use Rattle.layout.specs.Rules as layout-rules
 use Rattle.region.specs.Refusals.{closed, cursorFault}
 use Rattle.region.proofs.Answers.{region-none}
@@ -94,7 +95,7 @@ module _ (k : ℕ) (l : k ≤ 6) (a : Align) (o : Place) (O : Sound o) (sp : Vec
     widget-is = strip-widget k (omega arith) (o .x) (o .top) w h (O .x) (O .top) W H X Y a
 
     past-is : advanceAfterRects (placerAt k a o) placed placed sp ≡ placerAt k a (pastControl o s w h)
-    unfolding advanceAfterRects movedPast setCursor expandToIncludeRect layout-rules.expandToIncludeRect
+    unfolding advanceAfterRects movedPast setCursor expandToIncludeRect regions.expandToIncludeRect
     past-is =
         let k9 : k ≤ 149 = omega arith in
         let one-top : minZ (o .top) (o .top) ≡ o .top = omega (arith, whole, min-is (o .top) (o .top)) in

@@ -2,6 +2,7 @@
 pub mod Turns
 pub mod Counts
 pub mod Remembered
+pub mod Answers
 pub mod Cells
 pub mod Fair
 pub mod Advances

@@ -1,15 +1,15 @@
 -- The public calls of grid.rs: the least number that applies to the arguments, or else to the answer, or else what the rule gives.
 -- "Callers' states count as arguments." Where a call rounds, the step is 1 / 2 ^ k point.
 use Prim.Native.Nat.{ℕ}
-use mathlib.Core.Bool.{Bool, _&&_}
+use mathlib.Core.Bool.{Bool}
 use mathlib.Core.List.{[], _∷_}
 use lib.Dec.{ltb, leb}
 use lib.Ieee.{Float}
 use Rattle.emath.specs.Rectangles.{zeroF}
 use Rattle.emath.specs.Numbers as number
 use Rattle.emath.specs.Refusals.{when, least, orElse, lengthFault, extentFault, pairFault, sizeFault, rectFault, outside}
-use Rattle.region.specs.Refusals.{cursorFault, regionFault}
-use Rattle.region.specs.Operations.{placed, framed}
+use Rattle.region.specs.Refusals.{rectAnswer, cursorFault, regionFault}
+use Rattle.region.specs.Operations.{placedNumber, framedNumber}
 use Rattle.grid.specs.Memories.{setMinColWidth, setMinRowHeight, colWidth, rowHeight, fullWidth}
 use Rattle.grid.specs.Grids.{knownMemory, newGrid, emptyGrid, prevColWidth, prevRowHeight, availableRect, nextCell, alignSizeWithinRect, advance, endRow, save}
 use Rattle.grid.specs.Refusals.{memoryFault, maxCellFault, gridFault, directionFault, movedFault, memoryAnswer, gridAnswer, movedAnswer, savedAnswer, lengthAnswer, entryAnswer}
@@ -37,13 +37,16 @@ checkedSetMinRowHeight m row h =
 
 -- a column or row beyond the count has no entry
 unfoldable pub checkedColWidth : Memory → ℕ → LengthAnswer
-checkedColWidth m col = entryAnswer (memoryFault m) (ltb col (m .cols) && ltb col 32) (colWidth m col zeroF)
+checkedColWidth m col = entryAnswer (memoryFault m) (ltb col (m .cols)) (colWidth m col zeroF)
 
 unfoldable pub checkedRowHeight : Memory → ℕ → LengthAnswer
-checkedRowHeight m row = entryAnswer (memoryFault m) (ltb row (m .rows) && ltb row 128) (rowHeight m row zeroF)
+checkedRowHeight m row = entryAnswer (memoryFault m) (ltb row (m .rows)) (rowHeight m row zeroF)
+
+unfoldable pub fullWidthNumber : Memory → Float → ℕ
+fullWidthNumber m x = orElse (least (memoryFault m ∷ lengthFault x ∷ [])) (outside (lengthFault (fullWidth m x)))
 
 unfoldable pub checkedFullWidth : Memory → Float → LengthAnswer
-checkedFullWidth m x = lengthAnswer (orElse (least (memoryFault m ∷ lengthFault x ∷ [])) (outside (lengthFault (fullWidth m x)))) (fullWidth m x)
+checkedFullWidth m x = lengthAnswer (fullWidthNumber m x) (fullWidth m x)
 
 -- ---- GridLayout
 -- An absent memory is not read. There is no given grid: refused, the answer is a grid of zeros.
@@ -61,14 +64,23 @@ checkedPrevColWidth g col = lengthAnswer (gridFault g) (prevColWidth g col)
 unfoldable pub checkedPrevRowHeight : GridLayout → ℕ → LengthAnswer
 checkedPrevRowHeight g row = lengthAnswer (gridFault g) (prevRowHeight g row)
 
+unfoldable pub availableRectNumber : GridLayout → Direction → Region → ℕ
+availableRectNumber g d r = placedNumber (least (gridFault g ∷ regionFault d r ∷ directionFault d ∷ [])) (availableRect g r)
+
 unfoldable pub checkedAvailableRect : GridLayout → Direction → Region → RectAnswer
-checkedAvailableRect g d r = placed (least (gridFault g ∷ regionFault d r ∷ directionFault d ∷ [])) (availableRect g r)
+checkedAvailableRect g d r = rectAnswer (availableRectNumber g d r) (availableRect g r)
+
+unfoldable pub nextCellNumber : ℕ → GridLayout → Direction → Rect → Vec2 → ℕ
+nextCellNumber k g d c s = framedNumber (least (gridFault g ∷ cursorFault d c ∷ sizeFault s ∷ directionFault d ∷ [])) (nextCell k g c s)
 
 unfoldable pub checkedNextCell : ℕ → GridLayout → Direction → Rect → Vec2 → RectAnswer
-checkedNextCell k g d c s = framed (least (gridFault g ∷ cursorFault d c ∷ sizeFault s ∷ directionFault d ∷ [])) (nextCell k g c s)
+checkedNextCell k g d c s = rectAnswer (nextCellNumber k g d c s) (nextCell k g c s)
+
+unfoldable pub alignSizeWithinRectNumber : ℕ → GridLayout → Vec2 → Rect → ℕ
+alignSizeWithinRectNumber k g s f = placedNumber (least (gridFault g ∷ sizeFault s ∷ rectFault f ∷ [])) (alignSizeWithinRect k s f)
 
 unfoldable pub checkedAlignSizeWithinRect : ℕ → GridLayout → Vec2 → Rect → RectAnswer
-checkedAlignSizeWithinRect k g s f = placed (least (gridFault g ∷ sizeFault s ∷ rectFault f ∷ [])) (alignSizeWithinRect k s f)
+checkedAlignSizeWithinRect k g s f = rectAnswer (alignSizeWithinRectNumber k g s f) (alignSizeWithinRect k s f)
 
 -- 8: "an advance (so a W) at column 32 or row 128"
 unfoldable pub checkedAdvance : GridLayout → Direction → Rect → Rect → Rect → MovedAnswer

@@ -77,7 +77,7 @@ lengthAnswer n v = cond (eqb n 0) (Length v) (Refused n)
 unfoldable pub entryAnswer : ℕ → Bool → Float → LengthAnswer
 entryAnswer n there v = cond (eqb n 0) (cond there (Length v) Nothing) (Refused n)
 
--- document 01's number and value of each case: none where nothing is remembered, and zero where it is refused
+-- the number and the value of each case: where nothing is remembered the value is zero, as where the call is refused
 unfoldable pub lengthNumber : LengthAnswer → ℕ
 lengthNumber (Length v) = 0
 lengthNumber Nothing = 0
@@ -87,3 +87,7 @@ unfoldable pub lengthValue : LengthAnswer → Float
 lengthValue (Length v) = v
 lengthValue Nothing = zeroF
 lengthValue (Refused n) = zeroF
+
+-- what a call of this number has for a value: the rule's where it is 0, else zero
+unfoldable pub lengthOrZero : ℕ → Float → Float
+lengthOrZero n v = cond (eqb n 0) v zeroF

@@ -45,7 +45,12 @@ use region::faults::region_fault;
 ghost use mathlib.Core.Path.{_≡_};
 ghost use Rattle.emath.specs.Steps.{tick};
 ghost use Rattle.emath.specs.Domain.{finite};
-ghost use Rattle.grid.specs.Operations.{checkedSetMinColWidth, checkedSetMinRowHeight, checkedColWidth, checkedRowHeight, checkedFullWidth, checkedNew, checkedPrevColWidth, checkedPrevRowHeight, checkedAvailableRect, checkedNextCell, checkedAlignSizeWithinRect, checkedAdvance, checkedEndRow, checkedSave};
+ghost use Rattle.emath.specs.Rectangles.{zeroF};
+ghost use Rattle.region.specs.Refusals.{rectNumber, rectValue, rectOrZero};
+ghost use Rattle.grid.specs.Memories.{colWidth, fullWidth, rowHeight};
+ghost use Rattle.grid.specs.Grids.{alignSizeWithinRect, availableRect, nextCell, prevColWidth, prevRowHeight};
+ghost use Rattle.grid.specs.Refusals.{memoryFault, gridFault, lengthNumber, lengthValue, lengthOrZero};
+ghost use Rattle.grid.specs.Operations.{checkedSetMinColWidth, checkedSetMinRowHeight, checkedColWidth, checkedRowHeight, checkedFullWidth, checkedNew, checkedPrevColWidth, checkedPrevRowHeight, checkedAvailableRect, checkedNextCell, checkedAlignSizeWithinRect, checkedAdvance, checkedEndRow, checkedSave, alignSizeWithinRectNumber, availableRectNumber, fullWidthNumber, nextCellNumber};
 
 impl Memory {
     pub fn set_min_col_width(self, col: usize, width: f32) -> MemoryAnswer
@@ -79,8 +84,9 @@ impl Memory {
 
     pub fn col_width(self, col: usize) -> LengthAnswer
         ensures { λ a. ⌜ a ≡ checkedColWidth self col ⌝ }
+        ensures { λ a. ⌜ (lengthNumber a ≡ memoryFault self) × (lengthValue a ≡ lengthOrZero (lengthNumber a) (colWidth self col zeroF)) ⌝ }
     {
-        let there = (col < self.cols) & (col < MAX_COLS);
+        let there = col < self.cols;
         entry_answer(
             memory_fault(self),
             there,
@@ -90,8 +96,9 @@ impl Memory {
 
     pub fn row_height(self, row: usize) -> LengthAnswer
         ensures { λ a. ⌜ a ≡ checkedRowHeight self row ⌝ }
+        ensures { λ a. ⌜ (lengthNumber a ≡ memoryFault self) × (lengthValue a ≡ lengthOrZero (lengthNumber a) (rowHeight self row zeroF)) ⌝ }
     {
-        let there = (row < self.rows) & (row < MAX_ROWS);
+        let there = row < self.rows;
         entry_answer(
             memory_fault(self),
             there,
@@ -101,6 +108,7 @@ impl Memory {
 
     pub fn full_width(self, x_spacing: f32) -> LengthAnswer
         ensures { λ a. ⌜ a ≡ checkedFullWidth self «x_spacing» ⌝ }
+        ensures { λ a. ⌜ (lengthNumber a ≡ fullWidthNumber self «x_spacing») × (lengthValue a ≡ lengthOrZero (lengthNumber a) (fullWidth self «x_spacing»)) ⌝ }
     {
         let width = memories::full_width(self, x_spacing);
         let before = lesser_number(memory_fault(self), length_fault(x_spacing));
@@ -153,12 +161,14 @@ impl GridLayout {
 
     pub fn prev_col_width(self, col: usize) -> LengthAnswer
         ensures { λ a. ⌜ a ≡ checkedPrevColWidth self col ⌝ }
+        ensures { λ a. ⌜ (lengthNumber a ≡ gridFault self) × (lengthValue a ≡ lengthOrZero (lengthNumber a) (prevColWidth self col)) ⌝ }
     {
         length_answer(grid_fault(self), grids::prev_col_width(self, col))
     }
 
     pub fn prev_row_height(self, row: usize) -> LengthAnswer
         ensures { λ a. ⌜ a ≡ checkedPrevRowHeight self row ⌝ }
+        ensures { λ a. ⌜ (lengthNumber a ≡ gridFault self) × (lengthValue a ≡ lengthOrZero (lengthNumber a) (prevRowHeight self row)) ⌝ }
     {
         length_answer(grid_fault(self), grids::prev_row_height(self, row))
     }
@@ -171,6 +181,7 @@ impl GridLayout {
 
     pub fn available_rect(self, main_dir: Direction, region: Region) -> RectAnswer
         ensures { λ a. ⌜ a ≡ checkedAvailableRect self «main_dir» region ⌝ }
+        ensures { λ a. ⌜ (rectNumber a ≡ availableRectNumber self «main_dir» region) × (rectValue a ≡ rectOrZero (rectNumber a) (availableRect self region)) ⌝ }
     {
         let rect = grids::available_rect(self, region);
         let rest = lesser_number(region_fault(main_dir, region), direction_fault(main_dir));
@@ -179,6 +190,7 @@ impl GridLayout {
 
     pub fn next_cell(self, main_dir: Direction, cursor: Rect, child_size: Vec2) -> RectAnswer
         ensures { λ a. ⌜ a ≡ checkedNextCell tick self «main_dir» cursor «child_size» ⌝ }
+        ensures { λ a. ⌜ (rectNumber a ≡ nextCellNumber tick self «main_dir» cursor «child_size») × (rectValue a ≡ rectOrZero (rectNumber a) (nextCell tick self cursor «child_size»)) ⌝ }
     {
         let frame = grids::next_cell(self, cursor, child_size);
         let sizes = lesser_number(size_fault(child_size), direction_fault(main_dir));
@@ -188,6 +200,7 @@ impl GridLayout {
 
     pub fn align_size_within_rect(self, size: Vec2, frame: Rect) -> RectAnswer
         ensures { λ a. ⌜ a ≡ checkedAlignSizeWithinRect tick self size frame ⌝ }
+        ensures { λ a. ⌜ (rectNumber a ≡ alignSizeWithinRectNumber tick self size frame) × (rectValue a ≡ rectOrZero (rectNumber a) (alignSizeWithinRect tick size frame)) ⌝ }
     {
         let rect = grids::align_size_within_rect(size, frame);
         let rest = lesser_number(size_fault(size), rect_fault(frame));
@@ -196,6 +209,7 @@ impl GridLayout {
 
     pub fn justify_and_align(self, frame: Rect, size: Vec2) -> RectAnswer
         ensures { λ a. ⌜ a ≡ checkedAlignSizeWithinRect tick self size frame ⌝ }
+        ensures { λ a. ⌜ (rectNumber a ≡ alignSizeWithinRectNumber tick self size frame) × (rectValue a ≡ rectOrZero (rectNumber a) (alignSizeWithinRect tick size frame)) ⌝ }
     {
         self.align_size_within_rect(size, frame)
     }

@@ -31,11 +31,14 @@ use region::faults::size_answer;
 use region::faults::zero_region;
 ghost use mathlib.Core.Path.{_≡_};
 ghost use Rattle.emath.specs.Steps.{tick};
-ghost use Rattle.layout.specs.Operations.{checkedAlignSizeWithinRect, checkedInitialCursor, checkedRegionFromMaxRect, checkedAvailableRectBeforeWrap, checkedAvailableSize, checkedAvailableFromCursorMaxRect, checkedNextFrame, checkedNextFrameIgnoreWrap, checkedJustifyAndAlign, checkedNextWidgetSpaceIgnoreWrapJustify, checkedNextWidgetPosition, checkedAdvanceCursor, checkedAdvanceAfterRects, checkedEndRow, checkedSetRowHeight};
+ghost use Rattle.region.specs.Refusals.{rectNumber, rectValue, rectOrZero, posNumber, posValue, posOrZero, sizeNumber, sizeValue, sizeOrZero};
+ghost use Rattle.layout.specs.Rules.{alignSizeWithinRect, availableFromCursorMaxRect, availableRectBeforeWrap, availableSize, initialCursor, justifyAndAlign, nextFrame, nextFrameIgnoreWrap, nextWidgetPosition, nextWidgetSpaceIgnoreWrapJustify};
+ghost use Rattle.layout.specs.Operations.{checkedAlignSizeWithinRect, checkedInitialCursor, checkedRegionFromMaxRect, checkedAvailableRectBeforeWrap, checkedAvailableSize, checkedAvailableFromCursorMaxRect, checkedNextFrame, checkedNextFrameIgnoreWrap, checkedJustifyAndAlign, checkedNextWidgetSpaceIgnoreWrapJustify, checkedNextWidgetPosition, checkedAdvanceCursor, checkedAdvanceAfterRects, checkedEndRow, checkedSetRowHeight, alignSizeWithinRectNumber, availableFromCursorMaxRectNumber, availableRectBeforeWrapNumber, availableSizeNumber, initialCursorNumber, justifyAndAlignNumber, nextFrameIgnoreWrapNumber, nextFrameNumber, nextWidgetPositionNumber, nextWidgetSpaceIgnoreWrapJustifyNumber};
 
 impl Layout {
     pub fn align_size_within_rect(self, size: Vec2, outer: Rect) -> RectAnswer
         ensures { λ a. ⌜ a ≡ checkedAlignSizeWithinRect tick self size outer ⌝ }
+        ensures { λ a. ⌜ (rectNumber a ≡ alignSizeWithinRectNumber tick self size outer) × (rectValue a ≡ rectOrZero (rectNumber a) (alignSizeWithinRect tick self size outer)) ⌝ }
     {
         let rect = widgets::align_size_within_rect(self, size, outer);
         placed_rect(lesser_number(size_fault(size), rect_fault(outer)), rect)
@@ -43,6 +46,7 @@ impl Layout {
 
     pub fn initial_cursor(self, max_rect: Rect) -> RectAnswer
         ensures { λ a. ⌜ a ≡ checkedInitialCursor self «max_rect» ⌝ }
+        ensures { λ a. ⌜ (rectNumber a ≡ initialCursorNumber self «max_rect») × (rectValue a ≡ rectOrZero (rectNumber a) (initialCursor (self .«main_dir») «max_rect»)) ⌝ }
     {
         let d = self.main_dir;
         let cursor = available::initial_cursor(d, max_rect);
@@ -60,6 +64,7 @@ impl Layout {
 
     pub fn available_rect_before_wrap(self, region: Region) -> RectAnswer
         ensures { λ a. ⌜ a ≡ checkedAvailableRectBeforeWrap self region ⌝ }
+        ensures { λ a. ⌜ (rectNumber a ≡ availableRectBeforeWrapNumber self region) × (rectValue a ≡ rectOrZero (rectNumber a) (availableRectBeforeWrap (self .«main_dir») region)) ⌝ }
     {
         let d = self.main_dir;
         let rect = available::available_rect_before_wrap(d, region);
@@ -68,6 +73,7 @@ impl Layout {
 
     pub fn available_size(self, region: Region) -> SizeAnswer
         ensures { λ a. ⌜ a ≡ checkedAvailableSize self region ⌝ }
+        ensures { λ a. ⌜ (sizeNumber a ≡ availableSizeNumber self region) × (sizeValue a ≡ sizeOrZero (sizeNumber a) (availableSize self region)) ⌝ }
     {
         let d = self.main_dir;
         let size = available::available_size(self, region);
@@ -77,6 +83,7 @@ impl Layout {
 
     pub fn available_from_cursor_max_rect(self, cursor: Rect, max_rect: Rect) -> RectAnswer
         ensures { λ a. ⌜ a ≡ checkedAvailableFromCursorMaxRect self cursor «max_rect» ⌝ }
+        ensures { λ a. ⌜ (rectNumber a ≡ availableFromCursorMaxRectNumber self cursor «max_rect») × (rectValue a ≡ rectOrZero (rectNumber a) (availableFromCursorMaxRect (self .«main_dir») cursor «max_rect»)) ⌝ }
     {
         let d = self.main_dir;
         let rect = available::available_from_cursor_max_rect(d, cursor, max_rect);
@@ -88,6 +95,7 @@ impl Layout {
 
     pub fn next_frame(self, region: Region, child_size: Vec2, spacing: Vec2) -> RectAnswer
         ensures { λ a. ⌜ a ≡ checkedNextFrame tick self region «child_size» spacing ⌝ }
+        ensures { λ a. ⌜ (rectNumber a ≡ nextFrameNumber tick self region «child_size» spacing) × (rectValue a ≡ rectOrZero (rectNumber a) (nextFrame tick self region «child_size» spacing)) ⌝ }
     {
         let d = self.main_dir;
         let frame = frames::next_frame(self, region, child_size, spacing);
@@ -97,6 +105,7 @@ impl Layout {
 
     pub fn next_frame_ignore_wrap(self, region: Region, child_size: Vec2) -> RectAnswer
         ensures { λ a. ⌜ a ≡ checkedNextFrameIgnoreWrap tick self region «child_size» ⌝ }
+        ensures { λ a. ⌜ (rectNumber a ≡ nextFrameIgnoreWrapNumber tick self region «child_size») × (rectValue a ≡ rectOrZero (rectNumber a) (nextFrameIgnoreWrap tick self region «child_size»)) ⌝ }
     {
         let d = self.main_dir;
         let frame = frames::next_frame_ignore_wrap(self, region, child_size);
@@ -108,6 +117,7 @@ impl Layout {
 
     pub fn justify_and_align(self, frame: Rect, child_size: Vec2) -> RectAnswer
         ensures { λ a. ⌜ a ≡ checkedJustifyAndAlign tick self frame «child_size» ⌝ }
+        ensures { λ a. ⌜ (rectNumber a ≡ justifyAndAlignNumber tick self frame «child_size») × (rectValue a ≡ rectOrZero (rectNumber a) (justifyAndAlign tick self frame «child_size»)) ⌝ }
     {
         let widget = widgets::justify_and_align(self, frame, child_size);
         placed_rect(
@@ -118,6 +128,7 @@ impl Layout {
 
     pub fn next_widget_space_ignore_wrap_justify(self, region: Region, size: Vec2) -> RectAnswer
         ensures { λ a. ⌜ a ≡ checkedNextWidgetSpaceIgnoreWrapJustify tick self region size ⌝ }
+        ensures { λ a. ⌜ (rectNumber a ≡ nextWidgetSpaceIgnoreWrapJustifyNumber tick self region size) × (rectValue a ≡ rectOrZero (rectNumber a) (nextWidgetSpaceIgnoreWrapJustify tick self region size)) ⌝ }
     {
         let d = self.main_dir;
         let rect = widgets::next_widget_space_ignore_wrap_justify(self, region, size);
@@ -129,6 +140,7 @@ impl Layout {
 
     pub fn next_widget_position(self, region: Region) -> PosAnswer
         ensures { λ a. ⌜ a ≡ checkedNextWidgetPosition tick self region ⌝ }
+        ensures { λ a. ⌜ (posNumber a ≡ nextWidgetPositionNumber tick self region) × (posValue a ≡ posOrZero (posNumber a) (nextWidgetPosition tick self region)) ⌝ }
     {
         let d = self.main_dir;
         let pos = widgets::next_widget_position(self, region);

@@ -5,8 +5,8 @@ use mathlib.Core.List.{[], _∷_}
 use lib.Ieee.{Float}
 use Rattle.emath.specs.Numbers as number
 use Rattle.emath.specs.Refusals.{when, least, orElse, lengthFault, extentFault, pairFault, sizeFault, rectFault, outside}
-use Rattle.region.specs.Refusals.{cursorFault, posAnswer, sizeAnswer}
-use Rattle.region.specs.Operations.{placed, framed}
+use Rattle.region.specs.Refusals.{rectAnswer, cursorFault, posAnswer, sizeAnswer}
+use Rattle.region.specs.Operations.{placedNumber, framedNumber}
 use Rattle.grid.specs.Refusals.{gridFault, directionFault, savedAnswer}
 use Rattle.placer.specs.Rules.{newPlacer, setGrid, saveGrid, forceSetMinRect, setCursor, alignSizeWithinRect, availableRectBeforeWrap, availableSize, nextSpace, nextWidgetPosition, justifyAndAlign, advanceCursor, expandToIncludeRect, expandToIncludeX, expandToIncludeY, advanceAfterRects, endRow, setRowHeight, nextWidgetSpaceIgnoreWrapJustify, setMaxWidth, setMaxHeight, setMinWidth, setMinHeight}
 use Rattle.placer.specs.Refusals.{placerFault, advanceFault, endRowFault, zeroPlacer, changed}
@@ -37,24 +37,41 @@ checkedForceSetMinRect p m = changed (least (placerFault p ∷ rectFault m ∷ [
 unfoldable pub checkedSetCursor : Placer → Rect → PlacerAnswer
 checkedSetCursor p c = changed (least (placerFault p ∷ cursorFault (p .layout .«main_dir») c ∷ [])) p (setCursor p c)
 
+unfoldable pub alignSizeWithinRectNumber : ℕ → Placer → Vec2 → Rect → ℕ
+alignSizeWithinRectNumber k p s o = placedNumber (least (placerFault p ∷ sizeFault s ∷ rectFault o ∷ [])) (alignSizeWithinRect k p s o)
+
 unfoldable pub checkedAlignSizeWithinRect : ℕ → Placer → Vec2 → Rect → RectAnswer
-checkedAlignSizeWithinRect k p s o = placed (least (placerFault p ∷ sizeFault s ∷ rectFault o ∷ [])) (alignSizeWithinRect k p s o)
+checkedAlignSizeWithinRect k p s o = rectAnswer (alignSizeWithinRectNumber k p s o) (alignSizeWithinRect k p s o)
+
+unfoldable pub availableRectBeforeWrapNumber : ℕ → Placer → ℕ
+availableRectBeforeWrapNumber k p = placedNumber (placerFault p) (availableRectBeforeWrap k p)
 
 unfoldable pub checkedAvailableRectBeforeWrap : ℕ → Placer → RectAnswer
-checkedAvailableRectBeforeWrap k p = placed (placerFault p) (availableRectBeforeWrap k p)
+checkedAvailableRectBeforeWrap k p = rectAnswer (availableRectBeforeWrapNumber k p) (availableRectBeforeWrap k p)
+
+unfoldable pub availableSizeNumber : Placer → ℕ
+availableSizeNumber p = orElse (placerFault p) (outside (pairFault (availableSize p .x) (availableSize p .y)))
 
 unfoldable pub checkedAvailableSize : Placer → SizeAnswer
-checkedAvailableSize p = sizeAnswer (orElse (placerFault p) (outside (pairFault (availableSize p .x) (availableSize p .y)))) (availableSize p)
+checkedAvailableSize p = sizeAnswer (availableSizeNumber p) (availableSize p)
+
+unfoldable pub nextSpaceNumber : ℕ → Placer → Vec2 → Vec2 → ℕ
+nextSpaceNumber k p s sp = framedNumber (least (placerFault p ∷ sizeFault s ∷ pairFault (sp .x) (sp .y) ∷ [])) (nextSpace k p s sp)
 
 unfoldable pub checkedNextSpace : ℕ → Placer → Vec2 → Vec2 → RectAnswer
-checkedNextSpace k p s sp = framed (least (placerFault p ∷ sizeFault s ∷ pairFault (sp .x) (sp .y) ∷ [])) (nextSpace k p s sp)
+checkedNextSpace k p s sp = rectAnswer (nextSpaceNumber k p s sp) (nextSpace k p s sp)
+
+unfoldable pub nextWidgetPositionNumber : ℕ → Placer → ℕ
+nextWidgetPositionNumber k p = orElse (placerFault p) (outside (pairFault (nextWidgetPosition k p .x) (nextWidgetPosition k p .y)))
 
 unfoldable pub checkedNextWidgetPosition : ℕ → Placer → PosAnswer
-checkedNextWidgetPosition k p =
-    posAnswer (orElse (placerFault p) (outside (pairFault (nextWidgetPosition k p .x) (nextWidgetPosition k p .y)))) (nextWidgetPosition k p)
+checkedNextWidgetPosition k p = posAnswer (nextWidgetPositionNumber k p) (nextWidgetPosition k p)
+
+unfoldable pub justifyAndAlignNumber : ℕ → Placer → Rect → Vec2 → ℕ
+justifyAndAlignNumber k p r s = placedNumber (least (placerFault p ∷ rectFault r ∷ sizeFault s ∷ [])) (justifyAndAlign k p r s)
 
 unfoldable pub checkedJustifyAndAlign : ℕ → Placer → Rect → Vec2 → RectAnswer
-checkedJustifyAndAlign k p r s = placed (least (placerFault p ∷ rectFault r ∷ sizeFault s ∷ [])) (justifyAndAlign k p r s)
+checkedJustifyAndAlign k p r s = rectAnswer (justifyAndAlignNumber k p r s) (justifyAndAlign k p r s)
 
 -- 7: "S in a grid", also by 0
 unfoldable pub checkedAdvanceCursor : Placer → Float → PlacerAnswer
@@ -79,8 +96,11 @@ checkedExpandToIncludeX p x = changed (least (placerFault p ∷ lengthFault x �
 unfoldable pub checkedExpandToIncludeY : Placer → Float → PlacerAnswer
 checkedExpandToIncludeY p y = changed (least (placerFault p ∷ lengthFault y ∷ [])) p (expandToIncludeY p y)
 
+unfoldable pub nextWidgetSpaceIgnoreWrapJustifyNumber : ℕ → Placer → Vec2 → ℕ
+nextWidgetSpaceIgnoreWrapJustifyNumber k p s = placedNumber (least (placerFault p ∷ sizeFault s ∷ [])) (nextWidgetSpaceIgnoreWrapJustify k p s)
+
 unfoldable pub checkedNextWidgetSpaceIgnoreWrapJustify : ℕ → Placer → Vec2 → RectAnswer
-checkedNextWidgetSpaceIgnoreWrapJustify k p s = placed (least (placerFault p ∷ sizeFault s ∷ [])) (nextWidgetSpaceIgnoreWrapJustify k p s)
+checkedNextWidgetSpaceIgnoreWrapJustify k p s = rectAnswer (nextWidgetSpaceIgnoreWrapJustifyNumber k p s) (nextWidgetSpaceIgnoreWrapJustify k p s)
 
 -- 6: "negative … maximum width or height"
 unfoldable pub checkedSetMaxWidth : ℕ → Placer → Float → PlacerAnswer

@@ -36,7 +36,9 @@ use region::faults::pos_answer;
 use region::faults::size_answer;
 ghost use mathlib.Core.Path.{_≡_};
 ghost use Rattle.emath.specs.Steps.{tick};
-ghost use Rattle.placer.specs.Operations.{checkedNew, checkedSetGrid, checkedSaveGrid, checkedForceSetMinRect, checkedSetCursor, checkedAlignSizeWithinRect, checkedAvailableRectBeforeWrap, checkedAvailableSize, checkedNextSpace, checkedNextWidgetPosition, checkedJustifyAndAlign, checkedAdvanceCursor, checkedAdvanceAfterRects, checkedEndRow, checkedSetRowHeight, checkedExpandToIncludeRect, checkedExpandToIncludeX, checkedExpandToIncludeY, checkedNextWidgetSpaceIgnoreWrapJustify, checkedSetMaxWidth, checkedSetMaxHeight, checkedSetMinWidth, checkedSetMinHeight};
+ghost use Rattle.region.specs.Refusals.{rectNumber, rectValue, rectOrZero, posNumber, posValue, posOrZero, sizeNumber, sizeValue, sizeOrZero};
+ghost use Rattle.placer.specs.Rules.{alignSizeWithinRect, availableRectBeforeWrap, availableSize, justifyAndAlign, nextSpace, nextWidgetPosition, nextWidgetSpaceIgnoreWrapJustify};
+ghost use Rattle.placer.specs.Operations.{checkedNew, checkedSetGrid, checkedSaveGrid, checkedForceSetMinRect, checkedSetCursor, checkedAlignSizeWithinRect, checkedAvailableRectBeforeWrap, checkedAvailableSize, checkedNextSpace, checkedNextWidgetPosition, checkedJustifyAndAlign, checkedAdvanceCursor, checkedAdvanceAfterRects, checkedEndRow, checkedSetRowHeight, checkedExpandToIncludeRect, checkedExpandToIncludeX, checkedExpandToIncludeY, checkedNextWidgetSpaceIgnoreWrapJustify, checkedSetMaxWidth, checkedSetMaxHeight, checkedSetMinWidth, checkedSetMinHeight, alignSizeWithinRectNumber, availableRectBeforeWrapNumber, availableSizeNumber, justifyAndAlignNumber, nextSpaceNumber, nextWidgetPositionNumber, nextWidgetSpaceIgnoreWrapJustifyNumber};
 
 impl Placer {
     pub fn new(max_rect: Rect, layout: Layout) -> PlacerAnswer
@@ -89,6 +91,7 @@ impl Placer {
 
     pub fn align_size_within_rect(self, size: Vec2, outer: Rect) -> RectAnswer
         ensures { λ a. ⌜ a ≡ checkedAlignSizeWithinRect tick self size outer ⌝ }
+        ensures { λ a. ⌜ (rectNumber a ≡ alignSizeWithinRectNumber tick self size outer) × (rectValue a ≡ rectOrZero (rectNumber a) (alignSizeWithinRect tick self size outer)) ⌝ }
     {
         let rect = rules::align_size_within_rect(self, size, outer);
         let rest = lesser_number(size_fault(size), rect_fault(outer));
@@ -97,12 +100,14 @@ impl Placer {
 
     pub fn available_rect_before_wrap(self) -> RectAnswer
         ensures { λ a. ⌜ a ≡ checkedAvailableRectBeforeWrap tick self ⌝ }
+        ensures { λ a. ⌜ (rectNumber a ≡ availableRectBeforeWrapNumber tick self) × (rectValue a ≡ rectOrZero (rectNumber a) (availableRectBeforeWrap tick self)) ⌝ }
     {
         placed_rect(placer_fault(self), rules::available_rect_before_wrap(self))
     }
 
     pub fn available_size(self) -> SizeAnswer
         ensures { λ a. ⌜ a ≡ checkedAvailableSize self ⌝ }
+        ensures { λ a. ⌜ (sizeNumber a ≡ availableSizeNumber self) × (sizeValue a ≡ sizeOrZero (sizeNumber a) (availableSize self)) ⌝ }
     {
         let size = rules::available_size(self);
         let after = outside_domain(pair_fault(size.x, size.y));
@@ -111,6 +116,7 @@ impl Placer {
 
     pub fn next_space(self, child_size: Vec2, item_spacing: Vec2) -> RectAnswer
         ensures { λ a. ⌜ a ≡ checkedNextSpace tick self «child_size» «item_spacing» ⌝ }
+        ensures { λ a. ⌜ (rectNumber a ≡ nextSpaceNumber tick self «child_size» «item_spacing») × (rectValue a ≡ rectOrZero (rectNumber a) (nextSpace tick self «child_size» «item_spacing»)) ⌝ }
     {
         let frame = rules::next_space(self, child_size, item_spacing);
         let rest = lesser_number(
@@ -122,6 +128,7 @@ impl Placer {
 
     pub fn next_widget_position(self) -> PosAnswer
         ensures { λ a. ⌜ a ≡ checkedNextWidgetPosition tick self ⌝ }
+        ensures { λ a. ⌜ (posNumber a ≡ nextWidgetPositionNumber tick self) × (posValue a ≡ posOrZero (posNumber a) (nextWidgetPosition tick self)) ⌝ }
     {
         let pos = rules::next_widget_position(self);
         let after = outside_domain(pair_fault(pos.x, pos.y));
@@ -130,6 +137,7 @@ impl Placer {
 
     pub fn justify_and_align(self, rect: Rect, child_size: Vec2) -> RectAnswer
         ensures { λ a. ⌜ a ≡ checkedJustifyAndAlign tick self rect «child_size» ⌝ }
+        ensures { λ a. ⌜ (rectNumber a ≡ justifyAndAlignNumber tick self rect «child_size») × (rectValue a ≡ rectOrZero (rectNumber a) (justifyAndAlign tick self rect «child_size»)) ⌝ }
     {
         let widget = rules::justify_and_align(self, rect, child_size);
         let rest = lesser_number(rect_fault(rect), size_fault(child_size));
@@ -224,6 +232,7 @@ impl Placer {
 
     pub fn next_widget_space_ignore_wrap_justify(self, size: Vec2) -> RectAnswer
         ensures { λ a. ⌜ a ≡ checkedNextWidgetSpaceIgnoreWrapJustify tick self size ⌝ }
+        ensures { λ a. ⌜ (rectNumber a ≡ nextWidgetSpaceIgnoreWrapJustifyNumber tick self size) × (rectValue a ≡ rectOrZero (rectNumber a) (nextWidgetSpaceIgnoreWrapJustify tick self size)) ⌝ }
     {
         let rect = rules::next_widget_space_ignore_wrap_justify(self, size);
         placed_rect(lesser_number(placer_fault(self), size_fault(size)), rect)

@@ -1,24 +1,22 @@
 -- What an answer says: its number is the one it was made of, its value the given one, or all zero; and what an accepted call's parts are.
 -- Assumes nothing.
-use mathlib.Core.Path.{_≡_, refl, sym, _∙_}
-use mathlib.Core.Bool.{Bool, true, false, cond}
+use mathlib.Core.Path.{_≡_, refl, ap, sym, _∙_}
+use mathlib.Core.Bool.{Bool, true, false}
 use mathlib.Core.List.{[], _∷_}
 use Prim.Native.Nat.{ℕ, zero, suc}
 use native.Mathlib.Omega.{arith}
 use lib.Dec.{T, eqb, eqb→eq}
-use Rattle.emath.specs.Refusals.{orElse, outside, edgesFault, rectFault, frameFault, least}
+use Rattle.emath.specs.Refusals.{outside, edgesFault, rectFault, frameFault, least}
 use Rattle.emath.proofs.Refusals.{or-none, outside-none, lesser-none}
-use Rattle.region.specs.Regions.{zeroVec}
-use Rattle.region.specs.Refusals.{cursorFault, regionFault, zeroRect, zeroPos, rectAnswer, posAnswer, sizeAnswer, regionAnswer, cursorAnswer, rectNumber, rectValue, posNumber, posValue, sizeNumber, sizeValue}
-use Rattle.region.specs.Operations.{placed, framed, moved}
+use Rattle.region.specs.Refusals.{cursorFault, regionFault, rectAnswer, posAnswer, sizeAnswer, regionAnswer, cursorAnswer, rectNumber, rectValue, posNumber, posValue, sizeNumber, sizeValue, rectOrZero, posOrZero, sizeOrZero}
+use Rattle.region.specs.Operations.{placedNumber, framedNumber, moved}
 use Rattle.emath.specs.declared.Rect.{Rect}
 use Rattle.emath.specs.declared.Vec2.{Vec2}
 use Rattle.emath.specs.declared.Pos2.{Pos2}
 use Rattle.region.specs.declared.Direction.{Direction}
 use Rattle.region.specs.declared.Region.{Region}
-use Rattle.region.specs.declared.RectAnswer.the-variants.{Placed}
 
-some : (n : ℕ) → eqb (suc n) 0 ≡ false
+pub some : (n : ℕ) → eqb (suc n) 0 ≡ false
 some n = go (eqb (suc n) 0) (eqb→eq (suc n) 0)
   where
     go : (b : Bool) → (T b → suc n ≡ 0) → b ≡ false
@@ -31,30 +29,39 @@ unfolding rectAnswer rectNumber
 rect-number zero r = refl
 rect-number (suc n) r = rw (some n)
 
-pub rect-value : (n : ℕ) (r : Rect) → rectValue (rectAnswer n r) ≡ cond (eqb n 0) r zeroRect
-unfolding rectAnswer rectValue
+pub rect-value : (n : ℕ) (r : Rect) → rectValue (rectAnswer n r) ≡ rectOrZero n r
+unfolding rectAnswer rectValue rectOrZero
 rect-value zero r = refl
 rect-value (suc n) r = rw (some n)
+
+pub rect-says : (n : ℕ) (r : Rect) → (rectNumber (rectAnswer n r) ≡ n) × (rectValue (rectAnswer n r) ≡ rectOrZero (rectNumber (rectAnswer n r)) r)
+rect-says n r = (rect-number n r, rect-value n r ∙ ap (λ (m : ℕ). rectOrZero m r) (sym (rect-number n r)))
 
 pub pos-number : (n : ℕ) (p : Pos2) → posNumber (posAnswer n p) ≡ n
 unfolding posAnswer posNumber
 pos-number zero p = refl
 pos-number (suc n) p = rw (some n)
 
-pub pos-value : (n : ℕ) (p : Pos2) → posValue (posAnswer n p) ≡ cond (eqb n 0) p zeroPos
-unfolding posAnswer posValue
+pub pos-value : (n : ℕ) (p : Pos2) → posValue (posAnswer n p) ≡ posOrZero n p
+unfolding posAnswer posValue posOrZero
 pos-value zero p = refl
 pos-value (suc n) p = rw (some n)
+
+pub pos-says : (n : ℕ) (p : Pos2) → (posNumber (posAnswer n p) ≡ n) × (posValue (posAnswer n p) ≡ posOrZero (posNumber (posAnswer n p)) p)
+pos-says n p = (pos-number n p, pos-value n p ∙ ap (λ (m : ℕ). posOrZero m p) (sym (pos-number n p)))
 
 pub size-number : (n : ℕ) (v : Vec2) → sizeNumber (sizeAnswer n v) ≡ n
 unfolding sizeAnswer sizeNumber
 size-number zero v = refl
 size-number (suc n) v = rw (some n)
 
-pub size-value : (n : ℕ) (v : Vec2) → sizeValue (sizeAnswer n v) ≡ cond (eqb n 0) v zeroVec
-unfolding sizeAnswer sizeValue
+pub size-value : (n : ℕ) (v : Vec2) → sizeValue (sizeAnswer n v) ≡ sizeOrZero n v
+unfolding sizeAnswer sizeValue sizeOrZero
 size-value zero v = refl
 size-value (suc n) v = rw (some n)
+
+pub size-says : (n : ℕ) (v : Vec2) → (sizeNumber (sizeAnswer n v) ≡ n) × (sizeValue (sizeAnswer n v) ≡ sizeOrZero (sizeNumber (sizeAnswer n v)) v)
+size-says n v = (size-number n v, size-value n v ∙ ap (λ (m : ℕ). sizeOrZero m v) (sym (size-number n v)))
 
 -- ---- a refused call gives the state back as it was given
 pub region-refused : (n : ℕ) (given new : Region) → regionAnswer (suc n) given new .region ≡ given
@@ -66,19 +73,13 @@ unfolding cursorAnswer
 cursor-refused n given new = rw (some n)
 
 -- ---- an accepted call: the arguments have no fault, nor has the answer, which is what the rule gives
-pub placed-accepted : (n : ℕ) (r : Rect) → rectNumber (placed n r) ≡ 0 → (n ≡ 0) × (edgesFault r ≡ 0) × (placed n r ≡ Placed r)
-unfolding placed rectAnswer
-placed-accepted n r h =
-    let e : orElse n (outside (edgesFault r)) ≡ 0 = sym (rect-number (orElse n (outside (edgesFault r))) r) ∙ h in
-    let p = or-none n (outside (edgesFault r)) e in
-    (p .0, outside-none (edgesFault r) (p .1), rw e)
+pub placed-accepted : (n : ℕ) (r : Rect) → placedNumber n r ≡ 0 → (n ≡ 0) × (edgesFault r ≡ 0)
+unfolding placedNumber
+placed-accepted n r h = let p = or-none n (outside (edgesFault r)) h in (p .0, outside-none (edgesFault r) (p .1))
 
-pub framed-accepted : (n : ℕ) (r : Rect) → rectNumber (framed n r) ≡ 0 → (n ≡ 0) × (frameFault r ≡ 0) × (framed n r ≡ Placed r)
-unfolding framed rectAnswer
-framed-accepted n r h =
-    let e : orElse n (frameFault r) ≡ 0 = sym (rect-number (orElse n (frameFault r)) r) ∙ h in
-    let p = or-none n (frameFault r) e in
-    (p .0, p .1, rw e)
+pub framed-accepted : (n : ℕ) (r : Rect) → framedNumber n r ≡ 0 → (n ≡ 0) × (frameFault r ≡ 0)
+unfolding framedNumber
+framed-accepted n r h = or-none n (frameFault r) h
 
 pub moved-accepted : (d : Direction) (n : ℕ) (given new : Region) → moved d n given new .number ≡ 0 → (n ≡ 0) × (regionFault d new ≡ 0) × (moved d n given new .region ≡ new)
 unfolding moved regionAnswer

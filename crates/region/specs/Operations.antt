@@ -4,20 +4,20 @@ use mathlib.Core.List.{[], _∷_}
 use lib.Ieee.{Float}
 use Rattle.emath.specs.Refusals.{least, orElse, lengthFault, edgesFault, rectFault, outside, frameFault}
 use Rattle.region.specs.Regions.{expandToIncludeRect, expandToIncludeX, expandToIncludeY}
-use Rattle.region.specs.Refusals.{regionFault, rectAnswer, regionAnswer}
+use Rattle.region.specs.Refusals.{regionFault, regionAnswer}
 use Rattle.emath.specs.declared.Rect.{Rect}
 use Rattle.region.specs.declared.Direction.{Direction}
 use Rattle.region.specs.declared.Region.{Region}
-use Rattle.region.specs.declared.RectAnswer.{RectAnswer}
 use Rattle.region.specs.declared.RegionAnswer.{RegionAnswer}
 
--- ---- a rectangle that is not a frame, a frame, a new region
-unfoldable pub placed : ℕ → Rect → RectAnswer
-placed before r = rectAnswer (orElse before (outside (edgesFault r))) r
+-- ---- the number of a call that answers a rectangle: the arguments', or else the rectangle's own; a frame may not be inside out either
+unfoldable pub placedNumber : ℕ → Rect → ℕ
+placedNumber before r = orElse before (outside (edgesFault r))
 
-unfoldable pub framed : ℕ → Rect → RectAnswer
-framed before r = rectAnswer (orElse before (frameFault r)) r
+unfoldable pub framedNumber : ℕ → Rect → ℕ
+framedNumber before r = orElse before (frameFault r)
 
+-- ---- a new region
 unfoldable pub moved : Direction → ℕ → Region → Region → RegionAnswer
 moved d before given new = regionAnswer (orElse before (outside (regionFault d new))) given new
 

@@ -89,3 +89,13 @@ sizeNumber (size-answer.Refused n) = n
 unfoldable pub sizeValue : SizeAnswer → Vec2
 sizeValue (size-answer.Measured v) = v
 sizeValue (size-answer.Refused n) = zeroVec
+
+-- ---- what a call of this number has for a value: the rule's where it is 0, else all zero
+unfoldable pub rectOrZero : ℕ → Rect → Rect
+rectOrZero n r = cond (eqb n 0) r zeroRect
+
+unfoldable pub posOrZero : ℕ → Pos2 → Pos2
+posOrZero n p = cond (eqb n 0) p zeroPos
+
+unfoldable pub sizeOrZero : ℕ → Vec2 → Vec2
+sizeOrZero n v = cond (eqb n 0) v zeroVec

@@ -18,7 +18,7 @@ use emath::faults::rect_fault;
 use emath::num::infinity;
 ghost use mathlib.Core.Path.{_≡_};
 ghost use Rattle.region.specs.Refusals.{excused, closed, cursorFault, regionFault, rectAnswer, posAnswer, sizeAnswer, regionAnswer, cursorAnswer, zeroRegion};
-ghost use Rattle.region.specs.Operations.{placed, framed, moved};
+ghost use Rattle.region.specs.Operations.{placedNumber, framedNumber, moved};
 
 pub fn excused_edge(outward: f32, edge: f32) -> f32
     ensures { λ r. ⌜ r ≡ excused outward edge ⌝ }
@@ -130,13 +130,13 @@ pub fn cursor_answer(n: u8, given: Rect, new: Rect) -> CursorAnswer
 
 // A rectangle that is no frame: `before` is the arguments' number.
 pub fn placed_rect(before: u8, r: Rect) -> RectAnswer
-    ensures { λ a. ⌜ a ≡ placed before r ⌝ }
+    ensures { λ a. ⌜ a ≡ rectAnswer (placedNumber before r) r ⌝ }
 {
     rect_answer(or_else(before, outside_domain(edges_fault(r))), r)
 }
 
 pub fn framed_rect(before: u8, r: Rect) -> RectAnswer
-    ensures { λ a. ⌜ a ≡ framed before r ⌝ }
+    ensures { λ a. ⌜ a ≡ rectAnswer (framedNumber before r) r ⌝ }
 {
     rect_answer(or_else(before, frame_fault(r)), r)
 }

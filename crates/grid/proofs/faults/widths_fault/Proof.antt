@@ -1,8 +1,7 @@
 -- `grid::faults::widths_fault` meets its contract. Assumes nothing.
-use mathlib.Core.Path.{_≡_, ap, _∙_}
+use mathlib.Core.Path.{_≡_}
 use native.Mathlib.Omega.{arith}
 use lib.ListN.{length, take}
-use Rattle.grid.specs.Entries.{entriesFault}
 use Rattle.grid.proofs.Counts.{capped-le, take-capped}
 use borrow.Author.Needs.{needs}
 use Rattle.grid.proofs.faults.widths_fault.Statement.{statement}

@@ -2,7 +2,6 @@
 use mathlib.Core.Path.{_≡_, ap, _∙_, sym}
 use native.Mathlib.Omega.{arith}
 use lib.ListN.{length, take}
-use Rattle.grid.specs.Entries.{sameEntries}
 use Rattle.grid.proofs.Counts.{capped-le, take-capped, length-capped, not-same}
 use borrow.Author.Needs.{needs}
 use Rattle.grid.proofs.memories.same_widths.Statement.{statement}

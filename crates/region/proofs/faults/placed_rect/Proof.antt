@@ -1,10 +1,10 @@
 -- `region::faults::placed_rect` meets its contract. Assumes nothing.
-use Rattle.region.specs.Operations.{placed}
+use Rattle.region.specs.Operations.{placedNumber}
 use Rattle.region.proofs.faults.placed_rect.Statement.{statement}
 use Rattle.region.proofs.faults.placed_rect.Tie as tie
 
 returns : tie.Need-returns
-unfolding placed
+unfolding placedNumber
 returns c = rw (c .rect-answer .ensures, c .before .or-else .ensures, c .before .before .outside-domain .ensures, c .before .before .before .edges-fault .ensures)
 
 pub placed-rect-spec : {M : Type 1} → statement M

@@ -1,7 +1,7 @@
 /* platelist.h: lays out a sheet from bytes into the caller's memory.
  *
  * Link target/staticlib/libembed.a, which `rt staticlib embed` proves and writes, for x86-64 Linux.
- * examples/README.md says how a sheet is written, examples/embed has a program in C and one in Rust.
+ * docs/SHEETS.md says how a sheet is written, examples/embed has a program in C and one in Rust.
  * What is said below of answers, their bounds and contents is promised by the calls' contracts, which
  * are proved for all arguments (crates/embed: src/lib.rt, specs/Calls.antt).
  *

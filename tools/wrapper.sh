@@ -2,22 +2,33 @@
 set -euo pipefail
 root=$(cd "$(dirname "${BASH_SOURCE[0]}")/.." && pwd)
 
-# run_on_sheet PROGRAM MAKES [ARGUMENTS...]: the program makes what MAKES says of the sheet on standard input. A wrong use gets one line on
-# standard error and status 2; the program is proved and built where it has to be, and what that says goes there too.
+# run_on_sheet PROGRAM MAKES [ARGUMENTS...]: the program makes what MAKES says of a sheet: the file that is named, or standard input where none
+# is or where it is -. A wrong use gets one line on standard error and status 2; the program is proved and built where it has to be, and what
+# that says goes there too.
 run_on_sheet() {
-    local program=$1 makes=$2 use="give it a sheet on standard input, as in ./$1 < examples/panel.sheet"
+    local program=$1 makes=$2 use="give it a sheet, as in ./$1 examples/panel.sheet or ./$1 < examples/panel.sheet"
     shift 2
     case $#:${1-} in
-    0:) ;;
+    0: | 1:-) ;;
     1:-h | 1:--help)
-        echo "$program writes $makes of a sheet to standard output: $use. examples/README.md says how a sheet is written."
+        echo "$program writes $makes of a sheet to standard output: $use. docs/SHEETS.md says how a sheet is written."
         exit
         ;;
-    *) wrong "$program takes no arguments: $use" ;;
+    1:-*) wrong "$program has no option $1: $use" ;;
+    1:?*) open_sheet "$program" "$1" ;;
+    *) wrong "$program takes one sheet: $use" ;;
     esac
     look_at_input "$program" "$use"
     build_program "$program"
     exec "$root/target/bin/$program"
+}
+
+# The file becomes standard input. Looked at before it is opened, since opening a pipe twice would end its writer.
+open_sheet() {
+    if [ ! -e "$2" ]; then wrong "$1 can't read $2: there is no such file"; fi
+    if [ -d "$2" ]; then wrong "$1 can't read $2: it is a folder"; fi
+    if [ ! -r "$2" ]; then wrong "$1 can't read $2: it may not be read"; fi
+    exec <"$2"
 }
 
 wrong() {

@@ -3,7 +3,8 @@ use Prim.Native.Nat.{ℕ, zero, suc, _+_, _-_, _*_, _/_, _%_}
 use mathlib.Core.Bool.{Bool, true, false, cond, _&&_, _||_}
 use mathlib.Core.List.{List, [], _∷_, _++_}
 use lib.Dec.{leb, ltb, eqb}
-use Rattle.drawing.specs.Pieces.{ascii, filled}
+use Rattle.text.specs.Ascii.{ascii}
+use Rattle.drawing.specs.Pieces.{filled}
 use Rattle.drawing.specs.Pages.{placeOf, span, px, thickness, rowAcross, rowDown, sizeOf}
 use Rattle.drawing.specs.declared.Page.{Page}
 use Rattle.drawing.specs.declared.Layer.{Layer}

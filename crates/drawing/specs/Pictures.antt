@@ -6,7 +6,8 @@ use lib.Dec.{eqb}
 use lib.ListN.{length}
 use lib.Seq.{sets}
 use Rattle.text.specs.Letters as letters
-use Rattle.drawing.specs.Pieces.{ascii, filled, joined}
+use Rattle.text.specs.Ascii.{ascii}
+use Rattle.drawing.specs.Pieces.{filled, joined}
 use Rattle.drawing.specs.Pages.{placeOf, isLine, linesFrom, pageFor, px, thickness, bottom, pageWidth, pageHeight, barFrom}
 use Rattle.drawing.specs.Drawings.{plateAt, plateRow, each}
 use Rattle.drawing.specs.declared.Page.{Page}

@@ -1,7 +1,5 @@
 -- A drawing is text, written piece by piece: a byte, or a number in its columns.
-use Prim.Native.Nat.{ℕ, zero, suc, _+_, _*_, _%_, min}
-use Prim.Native.String.{String, len, charAt}
-use Prim.Native.Char.{code}
+use Prim.Native.Nat.{ℕ, _+_, _*_, _%_, min}
 use mathlib.Core.Bool.{cond}
 use mathlib.Core.List.{List, [], _∷_, _++_}
 use lib.Dec.{leb, eqb}
@@ -11,14 +9,6 @@ use lib.Seq.{sets}
 use Rattle.text.specs.Fields.{text, fieldAt}
 use Rattle.text.specs.declared.Field.{Field}
 use Rattle.text.specs.declared.Field.the-variants.{Blank, Number, Wrong}
-
--- the bytes of a text of ASCII
-abbrev pub asciiFrom : ℕ → ℕ → String → List ℕ
-asciiFrom zero i s = []
-asciiFrom (suc k) i s = code (charAt s i) ∷ asciiFrom k (i + 1) s
-
-abbrev pub ascii : String → List ℕ
-ascii s = asciiFrom (len s) 0 s
 
 -- ---- the numbers of a list
 -- what a field holds; 0 where it is no number

@@ -17,5 +17,4 @@ pub mod RoundOrder
 pub mod Edges
 pub mod Centres
 pub mod Sums
-pub mod Cases
 pub mod Refusals

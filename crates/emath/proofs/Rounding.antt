@@ -8,11 +8,11 @@ use mathlib.Core.Bool.{Bool, true, false, not, _&&_}
 use lib.Dec.{T, ltb, leb, eqb, eqb→eq, leb→le, nleb→lt, ltb→lt, lit<}
 use lib.IntN.{ℤ, pos, negsuc, natAbs}
 use lib.Pow.{pow-add, pow-pos, pow-lt}
-use lib.Ieee.{Float, nan, inf, fin, binary32, up, down, round, mul, div, fits, le, lt}
+use lib.Ieee.{Float, nan, inf, fin, binary32, ofBits, up, down, round, mul, div, fits, le, lt}
 use lib.Ieee.Fits.{down-pos, and-l, and-r}
 use lib.Ieee.Exact.{HasValue}
 use Rattle.emath.specs.Rectangles.{nearUp, roundF, roundBy, roundUi}
-use Rattle.emath.specs.Steps.{two, sgn, signed, val, roundZ, HalfStep}
+use Rattle.emath.specs.Steps.{tick, two, sgn, signed, val, roundZ, HalfStep}
 use Rattle.emath.proofs.Tests.{is-lt}
 use Rattle.emath.proofs.Whole.{natAbs-within, within-natAbs}
 use Rattle.emath.proofs.Exact.{Small, exact, val-is}
@@ -147,3 +147,8 @@ signed-back (negsuc n) = refl
 
 pub val-whole : (k : ℕ) (z : ℤ) → k ≤ 149 → Small z → roundUi k (val k z) ≡ val k z
 val-whole k z l h = ap (λ (n : ℕ). roundUi k (val n z)) (sym (zero-add k)) ∙ val-round k 0 z (omega arith) h ∙ ap (λ (n : ℕ). val k (signed (sgn z) n)) (near-whole (natAbs z)) ∙ ap (val k) (signed-back z)
+
+-- ---- 0.49999997 ticks, the float below a half, round to 0: the sum with 0.5 would round up to 1
+pub below-half-a-tick : roundUi tick (ofBits binary32 0x3c7fffff) ≡ val tick (pos 0)
+unfolding roundBy roundF val round ofBits mul div
+below-half-a-tick = refl

@@ -8,11 +8,8 @@ pub mod Halves
 pub mod Heights
 pub mod Settled
 pub mod Grids
-pub mod Columns
-pub mod Cases
 -- The engine on any numbers, and that it follows the passes in whole steps where the numbers are exact.
 pub mod Passes
-pub mod AnyRecords
 pub mod Engine
 pub mod Exact
 pub mod Embedding
@@ -20,7 +17,6 @@ pub mod AcceptedSteps
 pub mod GridSteps
 pub mod GridRuns
 pub mod Recorded
-pub mod GridColumns
 pub mod Growth
 pub mod GridPasses
 pub mod StripPasses

@@ -16,7 +16,7 @@ use Rattle.records.specs.Sheets.{records, widgets}
 use Rattle.sheet.specs.Slices.{LaidOut, edges}
 use Rattle.sheet.specs.Ticks.{Ticks, ticks, inTicks}
 use Rattle.listing.specs.Lists.{settled, listOf}
-use Rattle.drawing.specs.Pieces.{ascii}
+use Rattle.text.specs.Ascii.{ascii}
 
 -- ---- what a text is answered with, as the pass that is printed leaves it over a slice of eight places for each W, in whole numbers: the
 -- refusal's number and record (0: none), the plate's edges, the slice; how many columns there are, and their widths; how many rows, and their

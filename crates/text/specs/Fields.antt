@@ -6,6 +6,7 @@ use lib.IntN.{ℤ, pos, negsuc, negℤ, natAbs}
 use lib.Dec.{leb, ltb, eqb}
 use lib.ListN.{length, take, drop}
 use lib.Seq.{sets}
+use Rattle.text.specs.Letters as letters
 use Rattle.text.specs.declared.Field.{Field}
 use Rattle.text.specs.declared.Field.the-variants.{Blank, Number, Wrong}
 
@@ -17,8 +18,8 @@ shown n p = leb p (max n 1)
 -- a digit; the minus left of the first digit; else a space
 unfoldable pub column : Bool → ℕ → ℕ → ℕ
 column neg n j =
-    cond (shown n (10 ^ j)) (48 + n / 10 ^ j % 10)
-    (cond neg (cond (shown n (10 ^ j / 10)) 45 32) 32)
+    cond (shown n (10 ^ j)) (letters.ZERO + n / 10 ^ j % 10)
+    (cond neg (cond (shown n (10 ^ j / 10)) letters.MINUS letters.SPACE) letters.SPACE)
 
 -- the last k columns of n, the leftmost first
 unfoldable pub columns : Bool → ℕ → ℕ → List ℕ
@@ -40,7 +41,7 @@ hasText (negsuc n) = ltb n 9999999
 -- ---- reading
 -- one digit more, as long as there are fewer than eight
 unfoldable pub grow : ℕ → ℕ → ℕ
-grow acc b = cond (ltb 9999999 acc) acc (cond (ltb b 48) acc (cond (ltb 57 b) acc (acc * 10 + (b - 48))))
+grow acc b = cond (ltb 9999999 acc) acc (cond (ltb b letters.ZERO) acc (cond (ltb letters.NINE b) acc (acc * 10 + (b - letters.ZERO))))
 
 unfoldable pub digitsFrom : ℕ → List ℕ → ℕ
 digitsFrom acc [] = acc
@@ -54,7 +55,7 @@ same (x ∷ xs) (y ∷ ys) = cond (eqb x y) (same xs ys) false
 
 unfoldable pub blank : List ℕ → Bool
 blank [] = true
-blank (x ∷ xs) = cond (eqb x 32) (blank xs) false
+blank (x ∷ xs) = cond (eqb x letters.SPACE) (blank xs) false
 
 abbrev pub pick : Bool → Field → Field → Field
 pick true a b = a

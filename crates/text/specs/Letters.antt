@@ -1,4 +1,5 @@
--- The letters of a sheet's records and of a list's lines, and the byte that ends both. Cited as letters.NAME.
+-- The bytes of a sheet and of a list: the letters of records and lines, the byte that ends both, and what fields are made of. Cited as
+-- letters.NAME.
 use Prim.Native.Nat.{ℕ}
 
 -- what comes before the steps
@@ -48,3 +49,16 @@ X = 88
 
 abbrev pub LF : ℕ
 LF = 10
+
+-- fields: a blank column, the minus, the first and the last digit
+abbrev pub SPACE : ℕ
+SPACE = 32
+
+abbrev pub MINUS : ℕ
+MINUS = 45
+
+abbrev pub ZERO : ℕ
+ZERO = 48
+
+abbrev pub NINE : ℕ
+NINE = 57

@@ -2,5 +2,6 @@
 pub mod Letters
 pub mod Fields
 pub mod Lines
+pub mod Ascii
 -- Not part of the specification.
 pub mod Implementation

@@ -32,15 +32,15 @@ fn column(neg: bool, n: u32, j: usize) -> u8
     let p = ten(j);
     let m = at_least_one(n);
     if p <= m {
-        return 48 + (n / p - n / (p * 10) * 10) as u8;
+        return b'0' + (n / p - n / (p * 10) * 10) as u8;
     }
     if neg {
         if p / 10 <= m {
-            return 45;
+            return b'-';
         }
-        return 32;
+        return b' ';
     }
-    32
+    b' '
 }
 
 // Writes the eight columns from `at`.
@@ -69,13 +69,13 @@ fn value(f: &[u8], at: usize) -> u32
     let mut k = at;
     while k < f.len() {
         let b = f[k];
-        if b < 48 {
+        if b < b'0' {
             return NONE;
         }
-        if 57 < b {
+        if b'9' < b {
             return NONE;
         }
-        acc = acc * 10 + (b - 48) as u32;
+        acc = acc * 10 + (b - b'0') as u32;
         k += 1;
     }
     acc
@@ -90,7 +90,7 @@ fn unsigned(f: &[u8], at: usize) -> u32
     if n <= at {
         return NONE;
     }
-    if f[at] == 48 {
+    if f[at] == b'0' {
         if at + 1 < n {
             return NONE;
         }
@@ -136,7 +136,7 @@ fn signed(f: &[u8], at: usize, limit: u32) -> Field
     requires { ⌜ (8 ≡ length (now f)) × (at < 8) ⌝ }
     ensures { λ r. ⌜ r ≡ signedOf limit (drop at (now (f .entry))) ⌝ }
 {
-    if f[at] == 45 {
+    if f[at] == b'-' {
         return minus(unsigned(f, at + 1), limit);
     }
     plus(unsigned(f, at), limit)
@@ -148,7 +148,7 @@ fn spaces(f: &[u8]) -> usize
 {
     let mut i = 0;
     while i < f.len() {
-        if f[i] != 32 {
+        if f[i] != b' ' {
             return i;
         }
         i += 1;

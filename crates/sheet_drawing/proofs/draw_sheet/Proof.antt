@@ -1,3 +1,4 @@
+-- `sheet_drawing::draw_sheet` meets its contract. Assumes nothing.
 use Rattle.listing.proofs.Printed.{same-room as list-room}
 use lib.ListN.{length-take}
 use Rattle.sheet_drawing.proofs.OfSheets.{list-written}
@@ -8,17 +9,11 @@ use borrow.Author.Needs.{needs}
 use Rattle.sheet_drawing.proofs.draw_sheet.Statement.{statement}
 use Rattle.sheet_drawing.proofs.draw_sheet.Tie as tie
 
-print-requires : tie.Need-print-requires
-print-requires c κs = search needs
-
 array-share-prefix-list : tie.Need-array-share-prefix-list
 array-share-prefix-list c = let l : length (c .print .last .1 .0) ≡ 40802 = list-room _ _ _ _ (c .print .ensures .0) in omega (arith, l, c .print .ensures .1)
 
 slice-aggregate-draw : tie.Need-slice-aggregate-draw
 slice-aggregate-draw c = let l : length (c .before .print .last .1 .0) ≡ 40802 = list-room _ _ _ _ (c .before .print .ensures .0) in simp length-take (omega (arith, l, c .before .print .ensures .1))
-
-draw-requires : tie.Need-draw-requires
-draw-requires c κs = search needs
 
 returns : tie.Need-returns
 returns c = rw (← list-written _ _ _ _ (c .before .before .before .print .ensures .0) (c .before .before .before .print .ensures .1)) (c .draw .ensures)
@@ -26,4 +21,4 @@ returns c = rw (← list-written _ _ _ _ (c .before .before .before .print .ensu
 pub draw-sheet-spec : {M : Type 1} → statement M
 draw-sheet-spec =
     tie.close
-    (tie.spec print-requires array-share-prefix-list slice-aggregate-draw draw-requires returns)
+    (tie.spec (λ c κs. search needs) array-share-prefix-list slice-aggregate-draw (λ c κs. search needs) returns)

@@ -6,6 +6,7 @@ use mathlib.Core.Bool.{Bool, false, cond}
 use lib.IntN.{pos, negℤ}
 use lib.Dec.{leb, ltb, eqb}
 use lib.ListN.{length, drop, getD}
+use Rattle.text.specs.Letters as letters
 use Rattle.text.specs.Fields.{pick}
 use Rattle.text.specs.declared.Field.{Field}
 use Rattle.text.specs.declared.Field.the-variants.{Blank, Number, Wrong}
@@ -17,7 +18,7 @@ none = 4294967295
 -- digits only
 unfoldable pub valueFrom : ℕ → List ℕ → ℕ
 valueFrom acc [] = acc
-valueFrom acc (b ∷ s) = cond (ltb b 48) none (cond (ltb 57 b) none (valueFrom (acc * 10 + (b - 48)) s))
+valueFrom acc (b ∷ s) = cond (ltb b letters.ZERO) none (cond (ltb letters.NINE b) none (valueFrom (acc * 10 + (b - letters.ZERO)) s))
 
 -- a zero stands alone
 unfoldable pub zeroOnly : List ℕ → ℕ
@@ -26,7 +27,7 @@ zeroOnly (b ∷ s) = none
 
 unfoldable pub unsigned : List ℕ → ℕ
 unsigned [] = none
-unsigned (b ∷ s) = cond (eqb b 48) (zeroOnly s) (valueFrom 0 (b ∷ s))
+unsigned (b ∷ s) = cond (eqb b letters.ZERO) (zeroOnly s) (valueFrom 0 (b ∷ s))
 
 -- a number, and at most the limit
 unfoldable pub fits : ℕ → ℕ → Bool
@@ -40,11 +41,11 @@ minus limit n = pick (eqb n 0) Wrong (pick (fits limit n) (Number (negℤ (pos n
 
 unfoldable pub signed : ℕ → List ℕ → Field
 signed limit [] = Wrong
-signed limit (b ∷ s) = pick (eqb b 45) (minus limit (unsigned s)) (plus limit (unsigned (b ∷ s)))
+signed limit (b ∷ s) = pick (eqb b letters.MINUS) (minus limit (unsigned s)) (plus limit (unsigned (b ∷ s)))
 
 unfoldable pub scan : ℕ → List ℕ → Field
 scan limit [] = Blank
-scan limit (b ∷ s) = pick (eqb b 32) (scan limit s) (signed limit (b ∷ s))
+scan limit (b ∷ s) = pick (eqb b letters.SPACE) (scan limit s) (signed limit (b ∷ s))
 
 -- the columns before r are spaces: what is left is scanned as all are
 abbrev pub Skips : List ℕ → ℕ → Type 0
@@ -52,5 +53,5 @@ Skips f r = (limit : ℕ) → scan limit (drop r f) ≡ scan limit f
 
 -- and the one there is none
 pub record Spaces (f : List ℕ) (r : ℕ) : Type 0 where
-  pub stop : r < length f → getD f r 0 ≡ 32 → ⊥
+  pub stop : r < length f → getD f r 0 ≡ letters.SPACE → ⊥
   pub same : Skips f r

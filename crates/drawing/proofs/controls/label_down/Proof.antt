@@ -1,3 +1,4 @@
+-- `drawing::controls::label_down` meets its contract. Assumes nothing.
 use native.Mathlib.Nat.{div-le-self, mod-le}
 use Rattle.drawing.specs.Drawings.{labelDown}
 use mathlib.Core.Path.{refl}
@@ -6,39 +7,15 @@ use borrow.Author.Needs.{needs}
 use Rattle.drawing.proofs.controls.label_down.Statement.{statement}
 use Rattle.drawing.proofs.controls.label_down.Tie as tie
 
-down-requires : tie.Need-down-requires
-down-requires c κs = search needs
-
-across-requires : tie.Need-across-requires
-across-requires c κs = search needs
-
-div-band : tie.Need-div-band
-div-band c = search needs
-
-px-requires : tie.Need-px-requires
-px-requires c κs = search needs
-
-add-result : tie.Need-add-result
-add-result c = search needs
-
 times-requires : tie.Need-times-requires
 times-requires c κs = (omega (arith, div-le-self (c .before .before .across .result) (c .before .before .before .before .before .before .args .page .step), c .before .before .across .ensures .1), c .before .before .before .before .before .before .pre .0 .pitch)
-
-add-result-2 : tie.Need-add-result-2
-add-result-2 c = search needs
 
 returns : tie.Need-returns
 unfolding labelDown
 returns c = (rw (← c .before .before .before .across .ensures .0, ← c .before .before .before .before .before .down .ensures .0, ← c .before .px .ensures .0, ← c .times .ensures .0, c .before .before .before .before .if1 .taken) refl, omega arith)
 
-rem-px : tie.Need-rem-px
-rem-px c = search needs
-
 px-requires-2 : tie.Need-px-requires-2
 px-requires-2 c κs = omega (arith, mod-le (c .before .before .down .result) (c .before .before .before .before .args .page .step), c .before .before .down .ensures .1)
-
-add-result-3 : tie.Need-add-result-3
-add-result-3 c = search needs
 
 returns-2 : tie.Need-returns-2
 unfolding labelDown
@@ -48,15 +25,15 @@ pub label-down-spec : {M : Type 1} → statement M
 label-down-spec =
     tie.close
     (tie.spec
-    down-requires
-    across-requires
-    div-band
-    px-requires
-    add-result
+    (λ c κs. search needs)
+    (λ c κs. search needs)
+    (λ c. search needs)
+    (λ c κs. search needs)
+    (λ c. search needs)
     times-requires
-    add-result-2
+    (λ c. search needs)
     returns
-    rem-px
+    (λ c. search needs)
     px-requires-2
-    add-result-3
+    (λ c. search needs)
     returns-2)

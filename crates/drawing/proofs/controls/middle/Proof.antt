@@ -1,21 +1,10 @@
+-- `drawing::controls::middle` meets its contract. Assumes nothing.
 use Rattle.drawing.specs.Drawings.{middle}
 use mathlib.Core.Path.{refl}
 use native.Mathlib.Omega.{arith}
 use borrow.Author.Needs.{needs}
 use Rattle.drawing.proofs.controls.middle.Statement.{statement}
 use Rattle.drawing.proofs.controls.middle.Tie as tie
-
-place-of-requires : tie.Need-place-of-requires
-place-of-requires c κs = search needs
-
-beyond-requires : tie.Need-beyond-requires
-beyond-requires c κs = search needs
-
-place-of-requires-2 : tie.Need-place-of-requires-2
-place-of-requires-2 c κs = search needs
-
-beyond-requires-2 : tie.Need-beyond-requires-2
-beyond-requires-2 c κs = search needs
 
 add-result : tie.Need-add-result
 add-result c = omega (arith, c .before .before .before .place-of .ensures .1, c .before .place-of2 .ensures .1, c .before .before .beyond .ensures, c .beyond2 .ensures)
@@ -28,9 +17,9 @@ pub middle-spec : {M : Type 1} → statement M
 middle-spec =
     tie.close
     (tie.spec
-    place-of-requires
-    beyond-requires
-    place-of-requires-2
-    beyond-requires-2
+    (λ c κs. search needs)
+    (λ c κs. search needs)
+    (λ c κs. search needs)
+    (λ c κs. search needs)
     add-result
     returns)

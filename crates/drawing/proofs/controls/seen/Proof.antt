@@ -1,3 +1,4 @@
+-- `drawing::controls::seen` meets its contract. Assumes nothing.
 use Prim.Native.Nat.{_≤_}
 use Rattle.drawing.proofs.Layers.{seen-end, seen-hit, seen-turn}
 use Rattle.drawing.specs.Drawings.{seen}

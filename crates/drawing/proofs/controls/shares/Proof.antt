@@ -1,25 +1,8 @@
+-- `drawing::controls::shares` meets its contract. Assumes nothing.
 use Rattle.drawing.specs.Drawings.{shares}
 use borrow.Author.Needs.{needs}
 use Rattle.drawing.proofs.controls.shares.Statement.{statement}
 use Rattle.drawing.proofs.controls.shares.Tie as tie
-
-enum-told : tie.Need-enum-told
-enum-told c = search needs
-
-same-fields-requires : tie.Need-same-fields-requires
-same-fields-requires c κs = search needs
-
-enum-told-2 : tie.Need-enum-told-2
-enum-told-2 c = search needs
-
-same-fields-requires-2 : tie.Need-same-fields-requires-2
-same-fields-requires-2 c κs = search needs
-
-enum-told-3 : tie.Need-enum-told-3
-enum-told-3 c = search needs
-
-touching-requires : tie.Need-touching-requires
-touching-requires c κs = search needs
 
 returns : tie.Need-returns
 unfolding shares
@@ -37,12 +20,12 @@ pub shares-spec : {M : Type 1} → statement M
 shares-spec =
     tie.close
     (tie.spec
-    enum-told
-    same-fields-requires
-    enum-told-2
-    same-fields-requires-2
-    enum-told-3
-    touching-requires
+    (λ c. search needs)
+    (λ c κs. search needs)
+    (λ c. search needs)
+    (λ c κs. search needs)
+    (λ c. search needs)
+    (λ c κs. search needs)
     returns
     returns-2
     returns-3)

@@ -1,3 +1,4 @@
+-- `drawing::lists::biased` meets its contract. Assumes nothing.
 use Rattle.text.proofs.Signs.{Same, sign}
 use Rattle.drawing.proofs.Ruling.{biased-high, biased-low}
 use mathlib.Core.Path.{_∙_, sym}
@@ -8,9 +9,6 @@ use Rattle.drawing.proofs.lists.biased.Tie as tie
 
 magnitude-requires : tie.Need-magnitude-requires
 magnitude-requires c κs = let e : Same (c .args .z) = search needs in rw e (omega arith)
-
-cast-n : tie.Need-cast-n
-cast-n c = search needs
 
 sub-result : tie.Need-sub-result
 sub-result c = let e : Same (c .before .before .args .z) = search needs in let m = rw e at (c .before .magnitude .ensures) in omega arith
@@ -26,4 +24,4 @@ returns-2 c = let e : Same (c .before .before .args .z) = search needs in let m 
 
 pub biased-spec : {M : Type 1} → statement M
 biased-spec =
-    tie.close (tie.spec magnitude-requires cast-n sub-result returns add-result returns-2)
+    tie.close (tie.spec magnitude-requires (λ c. search needs) sub-result returns add-result returns-2)

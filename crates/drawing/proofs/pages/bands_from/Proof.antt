@@ -1,3 +1,4 @@
+-- `drawing::pages::bands_from` meets its contract. Assumes nothing.
 use Prim.Native.Nat.{_*_, _<_, _≤_}
 use Rattle.drawing.proofs.Ruling.{bands-end, bands-hit, bands-turn, square-small}
 use Rattle.drawing.specs.Pages.{bandsFrom}

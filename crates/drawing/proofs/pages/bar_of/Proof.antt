@@ -1,3 +1,4 @@
+-- `drawing::pages::bar_of` meets its contract. Assumes nothing.
 use Prim.Native.Nat.{_≤_}
 use Rattle.drawing.proofs.Ruling.{bar-end, bar-hit, bar-turn}
 use Rattle.drawing.specs.Pages.{barFrom}

@@ -1,3 +1,4 @@
+-- `drawing::pages::cut` meets its contract. Assumes nothing.
 use native.Mathlib.Nat.{div-le-self}
 use Rattle.drawing.specs.Pages.{cut}
 use native.Mathlib.Omega.{arith}
@@ -5,26 +6,8 @@ use borrow.Author.Needs.{needs}
 use Rattle.drawing.proofs.pages.cut.Statement.{statement}
 use Rattle.drawing.proofs.pages.cut.Tie as tie
 
-greater-requires : tie.Need-greater-requires
-greater-requires c κs = search needs
-
-div-step : tie.Need-div-step
-div-step c = search needs
-
 add-step : tie.Need-add-step
 add-step c = let h = div-le-self (c .greater .result) (c .before .args .bands) in omega arith
-
-greater-requires-2 : tie.Need-greater-requires-2
-greater-requires-2 c κs = search needs
-
-lesser-requires : tie.Need-lesser-requires
-lesser-requires c κs = search needs
-
-scaled-requires : tie.Need-scaled-requires
-scaled-requires c κs = search needs
-
-add-pitch : tie.Need-add-pitch
-add-pitch c = search needs
 
 returns : tie.Need-returns
 unfolding cut
@@ -34,11 +17,11 @@ pub cut-spec : {M : Type 1} → statement M
 cut-spec =
     tie.close
     (tie.spec
-    greater-requires
-    div-step
+    (λ c κs. search needs)
+    (λ c. search needs)
     add-step
-    greater-requires-2
-    lesser-requires
-    scaled-requires
-    add-pitch
+    (λ c κs. search needs)
+    (λ c κs. search needs)
+    (λ c κs. search needs)
+    (λ c. search needs)
     returns)

@@ -1,15 +1,10 @@
+-- `drawing::pages::row_across` meets its contract. Assumes nothing.
 use native.Mathlib.Nat.{div-le-self}
 use Rattle.drawing.specs.Pages.{rowAcross}
 use native.Mathlib.Omega.{arith}
 use borrow.Author.Needs.{needs}
 use Rattle.drawing.proofs.pages.row_across.Statement.{statement}
 use Rattle.drawing.proofs.pages.row_across.Tie as tie
-
-per-column-requires : tie.Need-per-column-requires
-per-column-requires c κs = search needs
-
-div-result : tie.Need-div-result
-div-result c = search needs
 
 mul-result : tie.Need-mul-result
 mul-result c = let h = div-le-self (c .before .args .i) (c .per-column .result) in omega arith
@@ -22,4 +17,4 @@ unfolding rowAcross
 returns c = rw (c .per-column .ensures .0)
 
 pub row-across-spec : {M : Type 1} → statement M
-row-across-spec = tie.close (tie.spec per-column-requires div-result mul-result add-result returns)
+row-across-spec = tie.close (tie.spec (λ c κs. search needs) (λ c. search needs) mul-result add-result returns)

@@ -1,21 +1,10 @@
+-- `drawing::pages::row_down` meets its contract. Assumes nothing.
 use native.Mathlib.Nat.{mod-lt}
 use Rattle.drawing.specs.Pages.{rowDown}
 use native.Mathlib.Omega.{arith}
 use borrow.Author.Needs.{needs}
 use Rattle.drawing.proofs.pages.row_down.Statement.{statement}
 use Rattle.drawing.proofs.pages.row_down.Tie as tie
-
-bottom-requires : tie.Need-bottom-requires
-bottom-requires c κs = search needs
-
-add-result : tie.Need-add-result
-add-result c = search needs
-
-per-column-requires : tie.Need-per-column-requires
-per-column-requires c κs = search needs
-
-rem-result : tie.Need-rem-result
-rem-result c = search needs
 
 mul-result : tie.Need-mul-result
 mul-result c = let h = mod-lt (c .before .before .args .i) (c .per-column .ensures .1) in omega arith
@@ -31,10 +20,10 @@ pub row-down-spec : {M : Type 1} → statement M
 row-down-spec =
     tie.close
     (tie.spec
-    bottom-requires
-    add-result
-    per-column-requires
-    rem-result
+    (λ c κs. search needs)
+    (λ c. search needs)
+    (λ c κs. search needs)
+    (λ c. search needs)
     mul-result
     add-result-2
     returns)

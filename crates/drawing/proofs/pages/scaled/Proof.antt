@@ -1,3 +1,4 @@
+-- `drawing::pages::scaled` meets its contract. Assumes nothing.
 use native.Mathlib.Nat.{div-zero}
 use Rattle.drawing.proofs.Ruling.{quotient-small}
 use Rattle.drawing.specs.Pages.{scaled}
@@ -11,21 +12,9 @@ returns : tie.Need-returns
 unfolding scaled
 returns c = rw (c .if1 .taken) (sym (div-zero _), omega arith)
 
-mul-result : tie.Need-mul-result
-mul-result c = search needs
-
-div-result : tie.Need-div-result
-div-result c = search needs
-
 returns-2 : tie.Need-returns-2
 unfolding scaled
 returns-2 c = rw (c .if2 .taken) (refl, quotient-small _ _ (c .before .before .pre) .0)
-
-mul-result-2 : tie.Need-mul-result-2
-mul-result-2 c = search needs
-
-div-result-2 : tie.Need-div-result-2
-div-result-2 c = search needs
 
 returns-3 : tie.Need-returns-3
 unfolding scaled
@@ -34,4 +23,4 @@ returns-3 c = rw (c .if2 .left) (refl, quotient-small _ _ (c .before .before .pr
 pub scaled-spec : {M : Type 1} → statement M
 scaled-spec =
     tie.close
-    (tie.spec returns mul-result div-result returns-2 mul-result-2 div-result-2 returns-3)
+    (tie.spec returns (λ c. search needs) (λ c. search needs) returns-2 (λ c. search needs) (λ c. search needs) returns-3)

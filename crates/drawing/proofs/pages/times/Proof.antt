@@ -1,3 +1,4 @@
+-- `drawing::pages::times` meets its contract. Assumes nothing.
 use Rattle.drawing.proofs.Ruling.{times-small}
 use mathlib.Core.Path.{refl}
 use native.Mathlib.Omega.{arith}

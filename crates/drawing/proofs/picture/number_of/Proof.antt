@@ -1,16 +1,8 @@
+-- `drawing::picture::number_of` meets its contract. Assumes nothing.
 use Rattle.drawing.specs.Pictures.{numberOf}
 use borrow.Author.Needs.{needs}
 use Rattle.drawing.proofs.picture.number_of.Statement.{statement}
 use Rattle.drawing.proofs.picture.number_of.Tie as tie
-
-is-line-requires : tie.Need-is-line-requires
-is-line-requires c κs = search needs
-
-place-of-requires : tie.Need-place-of-requires
-place-of-requires c κs = search needs
-
-beyond-requires : tie.Need-beyond-requires
-beyond-requires c κs = search needs
 
 returns : tie.Need-returns
 unfolding numberOf
@@ -22,4 +14,4 @@ returns-2 c = rw (← c .before .is-line .ensures, c .if1 .left)
 
 pub number-of-spec : {M : Type 1} → statement M
 number-of-spec =
-    tie.close (tie.spec is-line-requires place-of-requires beyond-requires returns returns-2)
+    tie.close (tie.spec (λ c κs. search needs) (λ c κs. search needs) (λ c κs. search needs) returns returns-2)

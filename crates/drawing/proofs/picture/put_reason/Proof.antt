@@ -1,3 +1,4 @@
+-- `drawing::picture::put_reason` meets its contract. Assumes nothing.
 use Rattle.drawing.specs.Pictures.{reason}
 use borrow.Author.Tests.{ne-eqb}
 use borrow.Author.Needs.{needs}

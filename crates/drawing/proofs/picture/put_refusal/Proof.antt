@@ -1,3 +1,4 @@
+-- `drawing::picture::put_refusal` meets its contract. Assumes nothing.
 use Rattle.drawing.proofs.Pieces.{emits-append}
 use Rattle.drawing.specs.Pictures.{refusal}
 use borrow.Author.Needs.{needs}

@@ -1,3 +1,4 @@
+-- `drawing::rows::put_each` meets its contract. Assumes nothing.
 use Prim.Native.Nat.{_+_}
 use Rattle.drawing.proofs.Layers.{each-end, each-turn}
 use Rattle.drawing.specs.Drawings.{each}

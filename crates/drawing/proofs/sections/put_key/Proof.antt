@@ -1,3 +1,4 @@
+-- `drawing::sections::put_key` meets its contract. Assumes nothing.
 use Rattle.drawing.proofs.Pieces.{emits-append}
 use Rattle.drawing.specs.Pictures.{key}
 use borrow.Author.Needs.{needs}

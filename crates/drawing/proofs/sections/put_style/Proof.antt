@@ -1,3 +1,4 @@
+-- `drawing::sections::put_style` meets its contract. Assumes nothing.
 use Rattle.drawing.specs.Pictures.{style}
 use borrow.Author.Needs.{needs}
 use Rattle.drawing.proofs.sections.put_style.Statement.{statement}

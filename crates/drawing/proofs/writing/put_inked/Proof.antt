@@ -1,3 +1,4 @@
+-- `drawing::writing::put_inked` meets its contract. Assumes nothing.
 use Prim.Native.Nat.{_-_}
 use Rattle.drawing.proofs.Pieces.{ink-end, ink-turn}
 use Rattle.drawing.specs.Pieces.{emits, inked}

@@ -1,3 +1,4 @@
+-- `drawing::writing::put_part` meets its contract. Assumes nothing.
 use Rattle.text.proofs.Signs.{Same}
 use Rattle.drawing.specs.Pieces.{part}
 use borrow.Author.Tests.{ne-eqb}
@@ -5,56 +6,26 @@ use borrow.Author.Needs.{needs}
 use Rattle.drawing.proofs.writing.put_part.Statement.{statement}
 use Rattle.drawing.proofs.writing.put_part.Tie as tie
 
-cast-i : tie.Need-cast-i
-cast-i c = search needs
-
-field-of-requires : tie.Need-field-of-requires
-field-of-requires c κs = search needs
-
 put-plain-requires : tie.Need-put-plain-requires
 put-plain-requires c κs = let e : Same (c .field-of .result) = search needs in rw e (c .field-of .ensures .1)
-
-field-of-requires-2 : tie.Need-field-of-requires-2
-field-of-requires-2 c κs = search needs
 
 put-number-requires : tie.Need-put-number-requires
 put-number-requires c κs = let e : Same (c .field-of2 .result) = search needs in rw e (c .field-of2 .ensures .1)
 
-number-requires : tie.Need-number-requires
-number-requires c κs = search needs
-
-numeral-requires : tie.Need-numeral-requires
-numeral-requires c κs = search needs
-
 put-plain-requires-2 : tie.Need-put-plain-requires-2
 put-plain-requires-2 c κs = let e : Same (c .numeral .result) = search needs in rw (e, c .numeral .ensures .0) (c .numeral .ensures .1)
-
-put-unmarked-requires : tie.Need-put-unmarked-requires
-put-unmarked-requires c κs = search needs
-
-same-length : tie.Need-same-length
-same-length c = search needs
 
 returns : tie.Need-returns
 unfolding part
 returns c = let e : Same (c .before .before .before .field-of .result) = search needs in rw (c .before .before .before .before .before .match .keys1) (rw (e, c .before .before .before .field-of .ensures .0) at (c .before .before .put-plain .ensures))
 
-same-length-2 : tie.Need-same-length-2
-same-length-2 c = search needs
-
 returns-2 : tie.Need-returns-2
 unfolding part
 returns-2 c = let e : Same (c .before .before .before .field-of2 .result) = search needs in rw (c .before .before .before .before .before .match .keys2) (rw (e, c .before .before .before .field-of2 .ensures .0) at (c .before .before .put-number .ensures))
 
-same-length-3 : tie.Need-same-length-3
-same-length-3 c = search needs
-
 returns-3 : tie.Need-returns-3
 unfolding part
 returns-3 c = let e : Same (c .before .before .before .numeral .result) = search needs in rw (c .before .before .before .before .before .before .match .keys3) (rw (e, c .before .before .before .numeral .ensures .0, c .before .before .before .before .number .ensures) at (c .before .before .put-plain2 .ensures))
-
-same-length-4 : tie.Need-same-length-4
-same-length-4 c = search needs
 
 returns-4 : tie.Need-returns-4
 unfolding part
@@ -64,20 +35,20 @@ pub put-part-spec : {M : Type 1} → statement M
 put-part-spec =
     tie.close
     (tie.spec
-    cast-i
-    field-of-requires
+    (λ c. search needs)
+    (λ c κs. search needs)
     put-plain-requires
-    field-of-requires-2
+    (λ c κs. search needs)
     put-number-requires
-    number-requires
-    numeral-requires
+    (λ c κs. search needs)
+    (λ c κs. search needs)
     put-plain-requires-2
-    put-unmarked-requires
-    same-length
+    (λ c κs. search needs)
+    (λ c. search needs)
     returns
-    same-length-2
+    (λ c. search needs)
     returns-2
-    same-length-3
+    (λ c. search needs)
     returns-3
-    same-length-4
+    (λ c. search needs)
     returns-4)

@@ -1,17 +1,9 @@
+-- `drawing::writing::put_unmarked` meets its contract. Assumes nothing.
 use Rattle.drawing.specs.Pieces.{emits, unmarked}
 use borrow.Author.Tests.{eq-eqb, ne-eqb}
 use borrow.Author.Needs.{needs}
 use Rattle.drawing.proofs.writing.put_unmarked.Statement.{statement}
 use Rattle.drawing.proofs.writing.put_unmarked.Tie as tie
-
-marked-requires : tie.Need-marked-requires
-marked-requires c κs = search needs
-
-put-byte-requires : tie.Need-put-byte-requires
-put-byte-requires c κs = search needs
-
-same-length : tie.Need-same-length
-same-length c = search needs
 
 returns : tie.Need-returns
 unfolding unmarked emits
@@ -23,4 +15,4 @@ returns-2 c = rw (← c .before .marked .ensures, ne-eqb _ _ (c .if1 .left))
 
 pub put-unmarked-spec : {M : Type 1} → statement M
 put-unmarked-spec =
-    tie.close (tie.spec marked-requires put-byte-requires same-length returns returns-2)
+    tie.close (tie.spec (λ c κs. search needs) (λ c κs. search needs) (λ c. search needs) returns returns-2)

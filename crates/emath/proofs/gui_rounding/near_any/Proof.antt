@@ -15,9 +15,6 @@ near-requires-2 : tie.Need-near-requires-2
 unfolding ofBits neg
 near-requires-2 c κs = let o = opposite (c .before .before .before .before .args .y) (T-of (c .before .before .before .before .good .0 .1)) (c .before .before .if2 .taken) (c .if4 .taken) in (o .0, o .1)
 
-returns : tie.Need-returns
-returns c = search needs
-
 returns-2 : tie.Need-returns-2
 unfolding ofBits neg
 returns-2 c = rw (c .near2 .ensures) (below-zero (c .before .before .before .before .before .args .y) (T-of (c .before .before .before .before .before .good .0 .1)) (c .before .before .before .if2 .taken) (c .before .if4 .taken))
@@ -37,4 +34,4 @@ returns-5 c = sym (from-high (c .before .args .y) (T-of (c .before .good .0 .1))
 pub near-any-spec : {M : Type 1} → statement M
 near-any-spec =
     tie.close
-    (tie.spec near-requires near-requires-2 returns returns-2 returns-3 returns-4 returns-5)
+    (tie.spec near-requires near-requires-2 (λ c. search needs) returns-2 returns-3 returns-4 returns-5)

@@ -28,12 +28,6 @@ past-end xs n i other h = nowhere xs n i other (simp length-take (omega arith))
 past-count : (xs : List Float) (n i : ℕ) (other : Float) → n ≤ i → other ≡ entry (take n xs) i other
 past-count xs n i other h = nowhere xs n i other (simp length-take (omega arith))
 
-mul-result : tie.Need-mul-result
-mul-result c = search needs
-
-shared-slice-read-result : tie.Need-shared-slice-read-result
-shared-slice-read-result c = search needs
-
 returns : tie.Need-returns
 returns c = there _ _ _ _ (c .before .before .if1 .taken) (c .before .if2 .taken)
 
@@ -44,4 +38,4 @@ returns-3 : tie.Need-returns-3
 returns-3 c = past-count (c .before .args .xs .now) (c .before .args .n) _ _ (c .if1 .left)
 
 pub entry-spec : {M : Type 1} → statement M
-entry-spec = tie.close (tie.spec mul-result shared-slice-read-result returns returns-2 returns-3)
+entry-spec = tie.close (tie.spec (λ c. search needs) (λ c. search needs) returns returns-2 returns-3)

@@ -23,11 +23,8 @@ one-less col (suc n) h =
 returns : tie.Need-returns
 returns c = none _ _ (c .if1 .taken)
 
-sub-result : tie.Need-sub-result
-sub-result c = search needs
-
 returns-2 : tie.Need-returns-2
 returns-2 c = one-less _ _ (c .before .if1 .left)
 
 pub is-last-column-spec : {M : Type 1} → statement M
-is-last-column-spec = tie.close (tie.spec returns sub-result returns-2)
+is-last-column-spec = tie.close (tie.spec returns (λ c. search needs) returns-2)

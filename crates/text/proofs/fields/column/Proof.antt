@@ -9,12 +9,6 @@ use borrow.Author.Needs.{needs}
 use Rattle.text.proofs.fields.column.Statement.{statement}
 use Rattle.text.proofs.fields.column.Tie as tie
 
-ten-requires : tie.Need-ten-requires
-ten-requires c κs = search needs
-
-at-least-one-requires : tie.Need-at-least-one-requires
-at-least-one-requires c κs = search needs
-
 div-result : tie.Need-div-result
 div-result c = rw (c .before .before .ten .ensures) (ten-pos _)
 
@@ -73,8 +67,8 @@ pub column-spec : {M : Type 1} → statement M
 column-spec =
     tie.close
     (tie.spec
-    ten-requires
-    at-least-one-requires
+    (λ c κs. search needs)
+    (λ c κs. search needs)
     div-result
     mul-result
     div-result-2

@@ -1,3 +1,4 @@
+-- `text::fields::fits` meets its contract. Assumes nothing.
 use borrow.Author.Tests.{eq-eqb, ne-eqb}
 use Rattle.text.specs.Implementation.Scanning.{fits}
 use Rattle.text.proofs.fields.fits.Statement.{statement}

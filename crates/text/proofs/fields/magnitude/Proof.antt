@@ -1,3 +1,4 @@
+-- `text::fields::magnitude` meets its contract. Assumes nothing.
 use Rattle.text.proofs.Signs.{sub-fits, value, sign, negs-cast, plain-cast, abs-neg}
 use mir.ValLaws.{toZ-ofZ}
 use mir.Syntax.{w32}
@@ -18,8 +19,5 @@ returns c = rw (value (c .before .args .z) (c .before .fits .z) (c .before .pre)
 cast-result-2 : tie.Need-cast-result-2
 cast-result-2 c = rw (toZ-ofZ w32 (c .before .args .z) (c .before .fits .z)) (plain-cast (c .before .args .z) (sym (sign (c .before .args .z) (c .before .fits .z) (c .before .pre)) ∙ c .if1 .left) (c .before .pre))
 
-returns-2 : tie.Need-returns-2
-returns-2 c = search needs
-
 pub magnitude-spec : {M : Type 1} → statement M
-magnitude-spec = tie.close (tie.spec sub-result cast-result returns cast-result-2 returns-2)
+magnitude-spec = tie.close (tie.spec sub-result cast-result returns cast-result-2 (λ c. search needs))

@@ -1,3 +1,4 @@
+-- `text::fields::minus` meets its contract. Assumes nothing.
 use borrow.Author.Tests.{eq-eqb, ne-eqb}
 use mathlib.Core.Path.{ap, sym, _∙_}
 use Rattle.text.specs.Implementation.Scanning.{minus}
@@ -11,9 +12,6 @@ use Rattle.text.proofs.fields.minus.Tie as tie
 returns : tie.Need-returns
 unfolding minus
 returns c = rw (eq-eqb _ _ (c .if1 .taken))
-
-fits-requires : tie.Need-fits-requires
-fits-requires c κs = search needs
 
 cast-t5 : tie.Need-cast-t5
 cast-t5 c = let h = c .before .before .before .pre (fits-is _ _ (sym (c .before .fits2 .ensures) ∙ c .if2 .taken) .0) in search needs
@@ -30,4 +28,4 @@ unfolding minus
 returns-3 c = rw (ne-eqb _ _ (c .before .before .if1 .left), ← c .before .fits2 .ensures, c .if2 .left)
 
 pub minus-spec : {M : Type 1} → statement M
-minus-spec = tie.close (tie.spec returns fits-requires cast-t5 sub-t6 returns-2 returns-3)
+minus-spec = tie.close (tie.spec returns (λ c κs. search needs) cast-t5 sub-t6 returns-2 returns-3)

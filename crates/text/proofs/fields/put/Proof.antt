@@ -1,3 +1,4 @@
+-- `text::fields::put` meets its contract. Assumes nothing.
 use Rattle.text.proofs.Turns.{put-turn, put-end}
 use Rattle.text.specs.Fields.{columns}
 use lib.Seq.{sets}

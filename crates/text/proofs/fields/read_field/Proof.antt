@@ -1,3 +1,4 @@
+-- `text::fields::read_field` meets its contract. Assumes nothing.
 use Rattle.text.proofs.Outcomes.{few, found}
 use native.Mathlib.Omega.{arith}
 use mathlib.Core.Path.{_≡_, ap, _∙_}
@@ -14,21 +15,6 @@ returns c = few _ _ _ (search needs)
 returns-2 : tie.Need-returns-2
 returns-2 c = few _ _ _ (search needs)
 
-add-read-columns : tie.Need-add-read-columns
-add-read-columns c = search needs
-
-sub-read-columns : tie.Need-sub-read-columns
-sub-read-columns c = search needs
-
-part-read-columns-start : tie.Need-part-read-columns-start
-part-read-columns-start c = search needs
-
-part-read-columns-end : tie.Need-part-read-columns-end
-part-read-columns-end c = search needs
-
-read-columns-requires : tie.Need-read-columns-requires
-read-columns-requires c κs = search needs
-
 returns-3 : tie.Need-returns-3
 returns-3 c =
     let a = c .before .before .before .before .before .args in
@@ -41,9 +27,9 @@ read-field-spec =
     (tie.spec
     returns
     returns-2
-    add-read-columns
-    sub-read-columns
-    part-read-columns-start
-    part-read-columns-end
-    read-columns-requires
+    (λ c. search needs)
+    (λ c. search needs)
+    (λ c. search needs)
+    (λ c. search needs)
+    (λ c κs. search needs)
     returns-3)

@@ -1,3 +1,4 @@
+-- `text::fields::ten` meets its contract. Assumes nothing.
 use Rattle.text.proofs.Table.{at}
 use lib.ListN.{getD}
 use lib.Dec.{eqb, eqb→eq}
@@ -14,15 +15,9 @@ tens = 1 ∷ 10 ∷ 100 ∷ 1000 ∷ 10000 ∷ 100000 ∷ 1000000 ∷ 10000000 �
 right : ℕ → ℕ → Bool
 right k x = eqb x (10 ^ k)
 
-mul-result : tie.Need-mul-result
-mul-result c = search needs
-
-array-read-result : tie.Need-array-read-result
-array-read-result c = search needs
-
 returns : tie.Need-returns
 unfolding tens right
 returns c = eqb→eq (getD tens (c .args .j) 0) (10 ^ (c .args .j)) (at right tens tt (c .args .j) (search needs))
 
 pub ten-spec : {M : Type 1} → statement M
-ten-spec = tie.close (tie.spec mul-result array-read-result returns)
+ten-spec = tie.close (tie.spec (λ c. search needs) (λ c. search needs) returns)

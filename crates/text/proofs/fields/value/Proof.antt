@@ -1,3 +1,4 @@
+-- `text::fields::value` meets its contract. Assumes nothing.
 use Rattle.text.proofs.ScanTurns.{few, seven, eight, value-end, too-low, too-high, value-turn}
 use Rattle.text.proofs.Turns.{ten-pos}
 use Rattle.text.specs.Implementation.Scanning.{valueFrom}

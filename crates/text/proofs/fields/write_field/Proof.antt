@@ -1,3 +1,4 @@
+-- `text::fields::write_field` meets its contract. Assumes nothing.
 use Rattle.text.proofs.Outcomes.{no-room, no-text, put-there}
 use Rattle.text.proofs.Signs.{has-text-small}
 use mathlib.Core.Path.{ap, sym, _∙_}
@@ -16,14 +17,8 @@ returns c = no-room _ _ _ (search needs)
 returns-2 : tie.Need-returns-2
 returns-2 c = no-room _ _ _ (search needs)
 
-has-text-requires : tie.Need-has-text-requires
-has-text-requires c κs = search needs
-
 put-signed-requires : tie.Need-put-signed-requires
 put-signed-requires c κs = (search needs, has-text-small _ (sym (c .before .before .has-text .ensures) ∙ c .before .if3 .taken))
-
-same-length : tie.Need-same-length
-same-length c = search needs
 
 returns-3 : tie.Need-returns-3
 returns-3 c =
@@ -44,8 +39,8 @@ write-field-spec =
     (tie.spec
     returns
     returns-2
-    has-text-requires
+    (λ c κs. search needs)
     put-signed-requires
-    same-length
+    (λ c. search needs)
     returns-3
     returns-4)

@@ -1,3 +1,4 @@
+-- `text::lines::have_texts` meets its contract. Assumes nothing.
 use Rattle.text.proofs.LineTexts.{have-turn, have-stop, have-end}
 use Rattle.text.specs.Lines.{haveTexts}
 use lib.ListN.{length, drop, getD}

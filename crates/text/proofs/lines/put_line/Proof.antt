@@ -1,3 +1,4 @@
+-- `text::lines::put_line` meets its contract. Assumes nothing.
 use Rattle.text.proofs.LineTexts.{line-put}
 use lib.ListN.{length-set}
 use Prim.Native.Nat.{_-_}
@@ -6,23 +7,8 @@ use borrow.Author.Needs.{needs}
 use Rattle.text.proofs.lines.put_line.Statement.{statement}
 use Rattle.text.proofs.lines.put_line.Tie as tie
 
-slice-write-out : tie.Need-slice-write-out
-slice-write-out c = search needs
-
-add-put-texts : tie.Need-add-put-texts
-add-put-texts c = search needs
-
 put-texts-requires : tie.Need-put-texts-requires
 put-texts-requires c κs = (simp length-set (omega arith), c .before .before .pre .1)
-
-add-out : tie.Need-add-out
-add-out c = search needs
-
-mul-out : tie.Need-mul-out
-mul-out c = search needs
-
-add-out-2 : tie.Need-add-out-2
-add-out-2 c = search needs
 
 slice-write-out-2 : tie.Need-slice-write-out-2
 slice-write-out-2 c = omega (arith, simp length-set at (c .before .before .put-texts .kept .0))
@@ -37,12 +23,12 @@ pub put-line-spec : {M : Type 1} → statement M
 put-line-spec =
     tie.close
     (tie.spec
-    slice-write-out
-    add-put-texts
+    (λ c. search needs)
+    (λ c. search needs)
     put-texts-requires
-    add-out
-    mul-out
-    add-out-2
+    (λ c. search needs)
+    (λ c. search needs)
+    (λ c. search needs)
     slice-write-out-2
     same-length
     returns)

@@ -1,3 +1,4 @@
+-- `text::lines::put_texts` meets its contract. Assumes nothing.
 use Rattle.text.proofs.LineTexts.{have-this, have-rest, put-more, put-none}
 use Rattle.text.proofs.Signs.{has-text-small}
 use Rattle.text.specs.Lines.{haveTexts, texts}

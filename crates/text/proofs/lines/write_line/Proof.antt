@@ -1,3 +1,4 @@
+-- `text::lines::write_line` meets its contract. Assumes nothing.
 use Rattle.text.proofs.LineTexts.{no-room-for-line, no-texts, line-there}
 use mathlib.Core.Path.{sym, _∙_}
 use Prim.Native.Nat.{_-_}
@@ -12,20 +13,11 @@ returns c = no-room-for-line (c .before .before .args .out .now) (c .before .bef
 returns-2 : tie.Need-returns-2
 returns-2 c = no-room-for-line (c .before .before .before .args .out .now) (c .before .before .before .args .at) _ (c .before .before .before .args .numbers .now) (omega arith)
 
-sub-if3 : tie.Need-sub-if3
-sub-if3 c = search needs
-
 returns-3 : tie.Need-returns-3
 returns-3 c = no-room-for-line (c .before .before .before .before .args .out .now) (c .before .before .before .before .args .at) _ (c .before .before .before .before .args .numbers .now) (omega arith)
 
-have-texts-requires : tie.Need-have-texts-requires
-have-texts-requires c κs = search needs
-
 put-line-requires : tie.Need-put-line-requires
 put-line-requires c κs = (omega arith, sym (c .before .before .have-texts .ensures) ∙ c .before .if4 .taken)
-
-same-length : tie.Need-same-length
-same-length c = search needs
 
 returns-4 : tie.Need-returns-4
 returns-4 c = line-there (c .before .before .before .before .before .before .before .before .before .before .args .out .now) (c .before .before .before .before .before .before .before .before .before .before .args .at) _ (c .before .before .before .before .before .before .before .before .before .before .args .numbers .now) _ (omega arith) (sym (c .before .before .before .before .before .have-texts .ensures) ∙ c .before .before .before .before .if4 .taken) (c .before .before .put-line .ensures)
@@ -39,10 +31,10 @@ write-line-spec =
     (tie.spec
     returns
     returns-2
-    sub-if3
+    (λ c. search needs)
     returns-3
-    have-texts-requires
+    (λ c κs. search needs)
     put-line-requires
-    same-length
+    (λ c. search needs)
     returns-4
     returns-5)

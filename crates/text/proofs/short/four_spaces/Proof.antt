@@ -6,26 +6,14 @@ use Rattle.text.proofs.ShortReads.{four-skipped}
 use Rattle.text.proofs.short.four_spaces.Statement.{statement}
 use Rattle.text.proofs.short.four_spaces.Tie as tie
 
-shared-slice-read-a : tie.Need-shared-slice-read-a
-shared-slice-read-a c = search needs
-
 cast-a : tie.Need-cast-a
 cast-a c = omega (arith, c .shared-slice-known .given 0)
-
-shared-slice-read-b : tie.Need-shared-slice-read-b
-shared-slice-read-b c = search needs
 
 cast-b : tie.Need-cast-b
 cast-b c = omega (arith, c .shared-slice-known2 .given 1)
 
-shared-slice-read-c : tie.Need-shared-slice-read-c
-shared-slice-read-c c = search needs
-
 cast-c : tie.Need-cast-c
 cast-c c = omega (arith, c .shared-slice-known3 .given 2)
-
-shared-slice-read-d : tie.Need-shared-slice-read-d
-shared-slice-read-d c = search needs
 
 cast-d : tie.Need-cast-d
 cast-d c = omega (arith, c .shared-slice-known4 .given 3)
@@ -55,13 +43,13 @@ pub four-spaces-spec : {M : Type 1} → statement M
 four-spaces-spec =
     tie.close
     (tie.spec
-    shared-slice-read-a
+    (λ c. search needs)
     cast-a
-    shared-slice-read-b
+    (λ c. search needs)
     cast-b
-    shared-slice-read-c
+    (λ c. search needs)
     cast-c
-    shared-slice-read-d
+    (λ c. search needs)
     cast-d
     mul-result
     add-result

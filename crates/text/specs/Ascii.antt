@@ -1,0 +1,12 @@
+-- The bytes of a text of ASCII, for texts that a definition spells out.
+use Prim.Native.Nat.{ℕ, zero, suc, _+_}
+use Prim.Native.String.{String, len, charAt}
+use Prim.Native.Char.{code}
+use mathlib.Core.List.{List, [], _∷_}
+
+abbrev pub asciiFrom : ℕ → ℕ → String → List ℕ
+asciiFrom zero i s = []
+asciiFrom (suc k) i s = code (charAt s i) ∷ asciiFrom k (i + 1) s
+
+abbrev pub ascii : String → List ℕ
+ascii s = asciiFrom (len s) 0 s

@@ -66,28 +66,21 @@ pub fn new_grid(
     }
 }
 
-// A grid of zeros.
+// What `new` answers where it is refused: all zero, and no memory known.
 pub fn empty_grid() -> GridLayout
     ensures { λ g. ⌜ g ≡ emptyGrid ⌝ }
 {
     let m = empty_memory();
-    let r = Rect {
-        left: 0.0,
-        top: 0.0,
-        right: 0.0,
-        bottom: 0.0,
-    };
-    let v = Vec2 { x: 0.0, y: 0.0 };
     GridLayout {
         is_first_frame: true,
         prev_state: m,
         curr_state: m,
-        initial_available: r,
+        initial_available: Rect::ZERO,
         sizing_pass: false,
         num_columns: 0,
-        spacing: v,
-        min_cell_size: v,
-        max_cell_size: v,
+        spacing: Vec2::ZERO,
+        min_cell_size: Vec2::ZERO,
+        max_cell_size: Vec2::ZERO,
         col: 0,
         row: 0,
     }

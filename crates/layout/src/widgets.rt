@@ -50,7 +50,7 @@ pub fn next_widget_space_ignore_wrap_justify(layout: Layout, region: Region, siz
 pub fn next_widget_position(layout: Layout, region: Region) -> Pos2
     ensures { λ p. ⌜ p ≡ nextWidgetPosition tick layout region ⌝ }
 {
-    next_widget_space_ignore_wrap_justify(layout, region, Vec2 { x: 0.0, y: 0.0 }).center()
+    next_widget_space_ignore_wrap_justify(layout, region, Vec2::ZERO).center()
 }
 
 // min_rect is not read before it is set.
@@ -65,6 +65,6 @@ pub fn region_from_max_rect(layout: Layout, max_rect: Rect) -> Region
     };
     let seed = next_widget_position(layout, region);
     let mut g = region;
-    g.min_rect = Rect::from_center_size(seed, Vec2 { x: 0.0, y: 0.0 });
+    g.min_rect = Rect::from_center_size(seed, Vec2::ZERO);
     g
 }

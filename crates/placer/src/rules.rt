@@ -126,7 +126,7 @@ pub fn next_widget_position(placer: Placer) -> Pos2
 {
     let g = placer.region;
     if placer.has_grid {
-        return grids::next_cell(placer.grid, g.cursor, Vec2 { x: 0.0, y: 0.0 }).center();
+        return grids::next_cell(placer.grid, g.cursor, Vec2::ZERO).center();
     }
     widgets::next_widget_position(placer.layout, g)
 }

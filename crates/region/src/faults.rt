@@ -152,15 +152,9 @@ pub fn moved_region(main_dir: Direction, before: u8, given: Region, new: Region)
 pub fn zero_region() -> Region
     ensures { λ g. ⌜ g ≡ zeroRegion ⌝ }
 {
-    let r = Rect {
-        left: 0.0,
-        top: 0.0,
-        right: 0.0,
-        bottom: 0.0,
-    };
     Region {
-        min_rect: r,
-        max_rect: r,
-        cursor: r,
+        min_rect: Rect::ZERO,
+        max_rect: Rect::ZERO,
+        cursor: Rect::ZERO,
     }
 }

@@ -19,6 +19,4 @@ returns : tie.Need-returns
 returns c = rw (← list-written _ _ _ _ (c .before .before .before .print .ensures .0) (c .before .before .before .print .ensures .1)) (c .draw .ensures)
 
 pub draw-sheet-spec : {M : Type 1} → statement M
-draw-sheet-spec =
-    tie.close
-    (tie.spec (λ c κs. search needs) array-share-prefix-list slice-aggregate-draw (λ c κs. search needs) returns)
+draw-sheet-spec = tie.close (tie.spec (λ c κs. search needs) array-share-prefix-list slice-aggregate-draw (λ c κs. search needs) returns)

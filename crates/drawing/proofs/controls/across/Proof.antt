@@ -9,5 +9,4 @@ unfolding across
 returns c = (rw (← c .before .place-of .ensures .0) (c .middle .ensures .0), c .middle .ensures .1)
 
 pub across-spec : {M : Type 1} → statement M
-across-spec =
-    tie.close (tie.spec (λ c. search needs) (λ c κs. search needs) (λ c. search needs) (λ c κs. search needs) returns)
+across-spec = tie.close (tie.spec (λ c. search needs) (λ c κs. search needs) (λ c. search needs) (λ c κs. search needs) returns)

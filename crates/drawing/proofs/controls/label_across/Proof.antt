@@ -21,18 +21,4 @@ unfolding labelAcross
 returns-2 c = rw (← c .before .before .before .before .before .across .ensures .0, ← c .before .before .before .down .ensures .0, ← c .before .px2 .ensures .0, ← c .times .ensures .0, c .before .before .before .before .if1 .left)
 
 pub label-across-spec : {M : Type 1} → statement M
-label-across-spec =
-    tie.close
-    (tie.spec
-    (λ c κs. search needs)
-    (λ c. search needs)
-    px-requires
-    (λ c. search needs)
-    returns
-    (λ c κs. search needs)
-    (λ c. search needs)
-    (λ c κs. search needs)
-    (λ c. search needs)
-    times-requires
-    (λ c. search needs)
-    returns-2)
+label-across-spec = tie.close (tie.spec (λ c κs. search needs) (λ c. search needs) px-requires (λ c. search needs) returns (λ c κs. search needs) (λ c. search needs) (λ c κs. search needs) (λ c. search needs) times-requires (λ c. search needs) returns-2)

@@ -22,18 +22,4 @@ unfolding labelDown
 returns-2 c = (rw (← c .before .before .before .down .ensures .0, ← c .px2 .ensures .0, c .before .before .if1 .left) refl, omega arith)
 
 pub label-down-spec : {M : Type 1} → statement M
-label-down-spec =
-    tie.close
-    (tie.spec
-    (λ c κs. search needs)
-    (λ c κs. search needs)
-    (λ c. search needs)
-    (λ c κs. search needs)
-    (λ c. search needs)
-    times-requires
-    (λ c. search needs)
-    returns
-    (λ c. search needs)
-    px-requires-2
-    (λ c. search needs)
-    returns-2)
+label-down-spec = tie.close (tie.spec (λ c κs. search needs) (λ c κs. search needs) (λ c. search needs) (λ c κs. search needs) (λ c. search needs) times-requires (λ c. search needs) returns (λ c. search needs) px-requires-2 (λ c. search needs) returns-2)

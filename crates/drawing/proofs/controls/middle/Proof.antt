@@ -14,12 +14,4 @@ unfolding middle
 returns c = (rw (← c .before .before .before .place-of .ensures .0, ← c .before .place-of2 .ensures .0, ← c .before .before .beyond .ensures, ← c .beyond2 .ensures) refl, omega (arith, c .before .before .before .place-of .ensures .1, c .before .place-of2 .ensures .1, c .before .before .beyond .ensures, c .beyond2 .ensures))
 
 pub middle-spec : {M : Type 1} → statement M
-middle-spec =
-    tie.close
-    (tie.spec
-    (λ c κs. search needs)
-    (λ c κs. search needs)
-    (λ c κs. search needs)
-    (λ c κs. search needs)
-    add-result
-    returns)
+middle-spec = tie.close (tie.spec (λ c κs. search needs) (λ c κs. search needs) (λ c κs. search needs) (λ c κs. search needs) add-result returns)

@@ -14,20 +14,8 @@ Inv-loop what page list k j₀ j = (j ≤ k) × (seen what page list j k ≡ see
 abbrev μ-loop : tie.MeasureT-loop
 μ-loop what page list k j₀ j = j
 
-loop-holds : tie.Need-loop-holds Inv-loop μ-loop
-loop-holds c = search needs
-
-sub-j : tie.Need-sub-j Inv-loop μ-loop
-sub-j c = search needs
-
-shares-requires : tie.Need-shares-requires Inv-loop μ-loop
-shares-requires c κs = search needs
-
 returns : tie.Need-returns Inv-loop μ-loop
 returns c = seen-hit _ _ _ _ (c .before .before .before .loop .j) (c .before .before .loop-test .taken) (sym (c .before .shares .ensures) ∙ c .if1 .taken) ∙ c .before .before .before .loop .inv .1
-
-loop-less : tie.Need-loop-less Inv-loop μ-loop
-loop-less c = search needs
 
 loop-again : tie.Need-loop-again Inv-loop μ-loop
 loop-again c = (omega arith, sym (seen-turn _ _ _ _ (c .before .before .before .loop .j) (c .before .before .loop-test .taken) (sym (c .before .shares .ensures) ∙ c .if1 .left)) ∙ c .before .before .before .loop .inv .1)
@@ -36,15 +24,4 @@ returns-2 : tie.Need-returns-2 Inv-loop μ-loop
 returns-2 c = seen-end _ _ _ _ (c .before .loop .j) (c .loop-test .left) ∙ c .before .loop .inv .1
 
 pub seen-spec : {M : Type 1} → statement M
-seen-spec =
-    tie.close
-    (tie.spec
-    Inv-loop
-    μ-loop
-    loop-holds
-    sub-j
-    shares-requires
-    returns
-    loop-less
-    loop-again
-    returns-2)
+seen-spec = tie.close (tie.spec Inv-loop μ-loop (λ c. search needs) (λ c. search needs) (λ c κs. search needs) returns (λ c. search needs) loop-again returns-2)

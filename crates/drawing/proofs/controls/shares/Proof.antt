@@ -17,15 +17,4 @@ unfolding shares
 returns-3 c = rw (c .before .enum-told3 .given .1) (c .touching .ensures)
 
 pub shares-spec : {M : Type 1} → statement M
-shares-spec =
-    tie.close
-    (tie.spec
-    (λ c. search needs)
-    (λ c κs. search needs)
-    (λ c. search needs)
-    (λ c κs. search needs)
-    (λ c. search needs)
-    (λ c κs. search needs)
-    returns
-    returns-2
-    returns-3)
+shares-spec = tie.close (tie.spec (λ c. search needs) (λ c κs. search needs) (λ c. search needs) (λ c κs. search needs) (λ c. search needs) (λ c κs. search needs) returns returns-2 returns-3)

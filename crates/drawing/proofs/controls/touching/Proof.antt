@@ -13,6 +13,4 @@ unfolding touching
 returns-2 c = rw (← c .before .before .before .covers .ensures, ← c .before .before .covers2 .ensures, c .before .if1 .left) (c .near2 .ensures)
 
 pub touching-spec : {M : Type 1} → statement M
-touching-spec =
-    tie.close
-    (tie.spec (λ c κs. search needs) (λ c κs. search needs) (λ c κs. search needs) returns (λ c κs. search needs) returns-2)
+touching-spec = tie.close (tie.spec (λ c κs. search needs) (λ c κs. search needs) (λ c κs. search needs) returns (λ c κs. search needs) returns-2)

@@ -13,20 +13,4 @@ unfolding captions
 returns-2 c = rw (← c .before .before .before .before .before .before .before .before .times .ensures .0, ← c .before .before .before .before .before .before .before .times2 .ensures .0, c .before .before .before .before .before .before .if1 .left) (c .before .before .put-filled2 .ensures)
 
 pub put-caption-spec : {M : Type 1} → statement M
-put-caption-spec =
-    tie.close
-    (tie.spec
-    (λ c κs. search needs)
-    (λ c κs. search needs)
-    (λ c. search needs)
-    (λ c. search needs)
-    (λ c. search needs)
-    (λ c κs. search needs)
-    (λ c. search needs)
-    returns
-    (λ c. search needs)
-    (λ c. search needs)
-    (λ c. search needs)
-    (λ c κs. search needs)
-    (λ c. search needs)
-    returns-2)
+put-caption-spec = tie.close (tie.spec (λ c κs. search needs) (λ c κs. search needs) (λ c. search needs) (λ c. search needs) (λ c. search needs) (λ c κs. search needs) (λ c. search needs) returns (λ c. search needs) (λ c. search needs) (λ c. search needs) (λ c κs. search needs) (λ c. search needs) returns-2)

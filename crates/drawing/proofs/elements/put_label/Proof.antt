@@ -17,31 +17,4 @@ unfolding label
 returns-3 c = rw (← c .before .before .before .before .before .before .before .before .before .covers .ensures, ← c .before .before .before .before .before .before .before .covers2 .ensures, ← c .before .before .before .before .before .before .before .before .before .before .before .label-across .ensures, ← c .before .before .before .before .before .before .before .before .before .before .label-down .ensures .0, c .before .before .before .before .before .before .before .before .if1 .left, c .before .before .before .before .before .before .if2 .left) (c .before .before .put-filled3 .ensures)
 
 pub put-label-spec : {M : Type 1} → statement M
-put-label-spec =
-    tie.close
-    (tie.spec
-    (λ c κs. search needs)
-    (λ c κs. search needs)
-    (λ c κs. search needs)
-    (λ c. search needs)
-    (λ c. search needs)
-    (λ c. search needs)
-    (λ c. search needs)
-    (λ c κs. search needs)
-    (λ c. search needs)
-    returns
-    (λ c κs. search needs)
-    (λ c. search needs)
-    (λ c. search needs)
-    (λ c. search needs)
-    (λ c. search needs)
-    (λ c κs. search needs)
-    (λ c. search needs)
-    returns-2
-    (λ c. search needs)
-    (λ c. search needs)
-    (λ c. search needs)
-    (λ c. search needs)
-    (λ c κs. search needs)
-    (λ c. search needs)
-    returns-3)
+put-label-spec = tie.close (tie.spec (λ c κs. search needs) (λ c κs. search needs) (λ c κs. search needs) (λ c. search needs) (λ c. search needs) (λ c. search needs) (λ c. search needs) (λ c κs. search needs) (λ c. search needs) returns (λ c κs. search needs) (λ c. search needs) (λ c. search needs) (λ c. search needs) (λ c. search needs) (λ c κs. search needs) (λ c. search needs) returns-2 (λ c. search needs) (λ c. search needs) (λ c. search needs) (λ c. search needs) (λ c κs. search needs) (λ c. search needs) returns-3)

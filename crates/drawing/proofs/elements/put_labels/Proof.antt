@@ -14,5 +14,4 @@ unfolding labels
 returns-2 c = rw (← c .before .before .before .before .before .seen .ensures, c .before .before .before .before .if1 .left) (c .before .before .put-label .ensures)
 
 pub put-labels-spec : {M : Type 1} → statement M
-put-labels-spec =
-    tie.close (tie.spec (λ c κs. search needs) returns (λ c κs. search needs) (λ c. search needs) returns-2)
+put-labels-spec = tie.close (tie.spec (λ c κs. search needs) returns (λ c κs. search needs) (λ c. search needs) returns-2)

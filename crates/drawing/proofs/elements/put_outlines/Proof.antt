@@ -10,13 +10,4 @@ unfolding outlines
 returns c = rw (emits-append, ← c .before .before .before .before .before .before .put-filled .ensures) (c .before .before .put-control .ensures)
 
 pub put-outlines-spec : {M : Type 1} → statement M
-put-outlines-spec =
-    tie.close
-    (tie.spec
-    (λ c. search needs)
-    (λ c. search needs)
-    (λ c. search needs)
-    (λ c κs. search needs)
-    (λ c κs. search needs)
-    (λ c. search needs)
-    returns)
+put-outlines-spec = tie.close (tie.spec (λ c. search needs) (λ c. search needs) (λ c. search needs) (λ c κs. search needs) (λ c κs. search needs) (λ c. search needs) returns)

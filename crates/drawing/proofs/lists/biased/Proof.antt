@@ -23,5 +23,4 @@ returns-2 : tie.Need-returns-2
 returns-2 c = let e : Same (c .before .before .args .z) = search needs in let m = rw e at (c .before .magnitude .ensures) in let b = biased-high (c .before .before .args .z) (sym (sign (c .before .before .args .z) (c .before .before .fits .z) (omega arith)) ∙ c .if1 .left) (c .before .before .pre) in rw m (b .0, omega (arith, b .0, b .1))
 
 pub biased-spec : {M : Type 1} → statement M
-biased-spec =
-    tie.close (tie.spec magnitude-requires (λ c. search needs) sub-result returns add-result returns-2)
+biased-spec = tie.close (tie.spec magnitude-requires (λ c. search needs) sub-result returns add-result returns-2)

@@ -17,17 +17,8 @@ abbrev μ-loop : tie.MeasureT-loop
 loop-holds : tie.Need-loop-holds Inv-loop μ-loop
 loop-holds c = let e : c .before .args .most - 0 ≡ c .before .args .most = omega arith in (omega arith, rw e (omega arith))
 
-is-line-requires : tie.Need-is-line-requires Inv-loop μ-loop
-is-line-requires c κs = search needs
-
 add-at : tie.Need-add-at Inv-loop μ-loop
 add-at c = let h = line-fits _ _ _ _ (sym (c .before .is-line .ensures) ∙ c .if1 .taken) in omega arith
-
-add-n : tie.Need-add-n Inv-loop μ-loop
-add-n c = search needs
-
-loop-less : tie.Need-loop-less Inv-loop μ-loop
-loop-less c = search needs
 
 loop-again : tie.Need-loop-again Inv-loop μ-loop
 loop-again c = let e : c .before .before .before .before .before .args .most - (c .before .before .before .loop .n + 1) ≡ c .before .before .before .before .before .args .most - c .before .before .before .loop .n - 1 = omega arith in (omega arith, rw e (lines-turn _ _ _ _ (c .before .before .before .before .before .args .most - c .before .before .before .loop .n) (c .before .before .before .loop .n) _ (c .before .before .before .loop .inv .1) (omega arith) (sym (c .before .is-line .ensures) ∙ c .if1 .taken)))
@@ -39,16 +30,4 @@ returns-2 : tie.Need-returns-2 Inv-loop μ-loop
 returns-2 c = (lines-end _ _ _ _ (c .before .before .before .args .most - c .before .loop .n) (c .before .loop .n) _ (c .before .loop .inv .1) (omega arith), omega arith)
 
 pub count-lines-spec : {M : Type 1} → statement M
-count-lines-spec =
-    tie.close
-    (tie.spec
-    Inv-loop
-    μ-loop
-    loop-holds
-    is-line-requires
-    add-at
-    add-n
-    loop-less
-    loop-again
-    returns
-    returns-2)
+count-lines-spec = tie.close (tie.spec Inv-loop μ-loop loop-holds (λ c κs. search needs) add-at (λ c. search needs) (λ c. search needs) loop-again returns returns-2)

@@ -12,12 +12,4 @@ unfolding fieldOf
 returns c = let e : Same (c .value-of .result) = search needs in let h = field-small _ _ in rw (e, c .value-of .ensures, c .before .read-field .ensures) (refl, h .0, h .1)
 
 pub field-of-spec : {M : Type 1} → statement M
-field-of-spec =
-    tie.close
-    (tie.spec
-    (λ c. search needs)
-    (λ c. search needs)
-    (λ c. search needs)
-    (λ c κs. search needs)
-    (λ c κs. search needs)
-    returns)
+field-of-spec = tie.close (tie.spec (λ c. search needs) (λ c. search needs) (λ c. search needs) (λ c κs. search needs) (λ c κs. search needs) returns)

@@ -14,9 +14,6 @@ Inv-loop n long short k₀ k = (k ≤ 22) × (bandsFrom k long short ≡ bandsFr
 abbrev μ-loop : tie.MeasureT-loop
 μ-loop n long short k₀ k = k
 
-loop-holds : tie.Need-loop-holds Inv-loop μ-loop
-loop-holds c = search needs
-
 mul-times : tie.Need-mul-times Inv-loop μ-loop
 mul-times c = let h = square-small (c .before .loop .k) (c .before .loop .inv .0) in omega arith
 
@@ -26,12 +23,6 @@ times-requires c κs = let h = square-small (c .before .loop .k) (c .before .loo
 returns : tie.Need-returns Inv-loop μ-loop
 returns c = let t : c .before .before .before .loop .k * c .before .before .before .loop .k * c .before .before .before .before .args .short ≤ c .before .before .before .before .args .long = omega arith in (bands-hit _ _ (c .before .before .before .loop .k) (c .before .before .loop-test .taken) t ∙ c .before .before .before .loop .inv .1, omega arith, omega arith)
 
-sub-k : tie.Need-sub-k Inv-loop μ-loop
-sub-k c = search needs
-
-loop-less : tie.Need-loop-less Inv-loop μ-loop
-loop-less c = search needs
-
 loop-again : tie.Need-loop-again Inv-loop μ-loop
 loop-again c = let t : c .before .before .before .before .args .long < c .before .before .before .loop .k * c .before .before .before .loop .k * c .before .before .before .before .args .short = omega arith in (omega arith, sym (bands-turn _ _ (c .before .before .before .loop .k) (c .before .before .loop-test .taken) t) ∙ c .before .before .before .loop .inv .1)
 
@@ -39,16 +30,4 @@ returns-2 : tie.Need-returns-2 Inv-loop μ-loop
 returns-2 c = (bands-end _ _ (c .before .loop .k) (c .loop-test .left) ∙ c .before .loop .inv .1, omega arith, omega arith)
 
 pub bands-from-spec : {M : Type 1} → statement M
-bands-from-spec =
-    tie.close
-    (tie.spec
-    Inv-loop
-    μ-loop
-    loop-holds
-    mul-times
-    times-requires
-    returns
-    sub-k
-    loop-less
-    loop-again
-    returns-2)
+bands-from-spec = tie.close (tie.spec Inv-loop μ-loop (λ c. search needs) mul-times times-requires returns (λ c. search needs) (λ c. search needs) loop-again returns-2)

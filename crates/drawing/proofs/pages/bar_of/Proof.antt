@@ -14,20 +14,8 @@ Inv-loop unit bar₀ left₀ bar left = (bar ≤ 2097152) × (barFrom left bar u
 abbrev μ-loop : tie.MeasureT-loop
 μ-loop unit bar₀ left₀ bar left = left
 
-loop-holds : tie.Need-loop-holds Inv-loop μ-loop
-loop-holds c = search needs
-
-mul-if1 : tie.Need-mul-if1 Inv-loop μ-loop
-mul-if1 c = search needs
-
 returns : tie.Need-returns Inv-loop μ-loop
 returns c = (bar-hit _ (c .before .before .loop .left) (c .before .before .loop .bar) (c .before .loop-test .taken) (omega arith) ∙ c .before .before .loop .inv .1, c .before .before .loop .inv .0)
-
-sub-left : tie.Need-sub-left Inv-loop μ-loop
-sub-left c = search needs
-
-loop-less : tie.Need-loop-less Inv-loop μ-loop
-loop-less c = search needs
 
 loop-again : tie.Need-loop-again Inv-loop μ-loop
 loop-again c = (omega arith, sym (bar-turn _ (c .before .before .loop .left) (c .before .before .loop .bar) (c .before .loop-test .taken) (omega arith)) ∙ c .before .before .loop .inv .1)
@@ -36,6 +24,4 @@ returns-2 : tie.Need-returns-2 Inv-loop μ-loop
 returns-2 c = (bar-end _ (c .before .loop .left) (c .before .loop .bar) (c .loop-test .left) ∙ c .before .loop .inv .1, c .before .loop .inv .0)
 
 pub bar-of-spec : {M : Type 1} → statement M
-bar-of-spec =
-    tie.close
-    (tie.spec Inv-loop μ-loop loop-holds mul-if1 returns sub-left loop-less loop-again returns-2)
+bar-of-spec = tie.close (tie.spec Inv-loop μ-loop (λ c. search needs) (λ c. search needs) returns (λ c. search needs) (λ c. search needs) loop-again returns-2)

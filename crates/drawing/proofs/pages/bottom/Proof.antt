@@ -14,6 +14,4 @@ unfolding bottom
 returns-2 c = rw (c .before .before .if1 .left) (rw (c .px .ensures .0, c .before .lesser .ensures) (omega arith), omega arith, omega arith)
 
 pub bottom-spec : {M : Type 1} → statement M
-bottom-spec =
-    tie.close
-    (tie.spec (λ c κs. search needs) (λ c. search needs) returns (λ c κs. search needs) (λ c κs. search needs) (λ c. search needs) returns-2)
+bottom-spec = tie.close (tie.spec (λ c κs. search needs) (λ c. search needs) returns (λ c κs. search needs) (λ c κs. search needs) (λ c. search needs) returns-2)

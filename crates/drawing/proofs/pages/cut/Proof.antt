@@ -14,14 +14,4 @@ unfolding cut
 returns c = rw (c .scaled .ensures .0, c .before .lesser .ensures, c .before .before .greater2 .ensures, c .before .before .before .greater .ensures)
 
 pub cut-spec : {M : Type 1} → statement M
-cut-spec =
-    tie.close
-    (tie.spec
-    (λ c κs. search needs)
-    (λ c. search needs)
-    add-step
-    (λ c κs. search needs)
-    (λ c κs. search needs)
-    (λ c κs. search needs)
-    (λ c. search needs)
-    returns)
+cut-spec = tie.close (tie.spec (λ c κs. search needs) (λ c. search needs) add-step (λ c κs. search needs) (λ c κs. search needs) (λ c κs. search needs) (λ c. search needs) returns)

@@ -10,17 +10,4 @@ unfolding pageFor columnsOf rowsOf
 returns c = (rw (c .ruled .ensures .0, c .before .span2 .ensures .0, c .before .before .span .ensures .0, c .before .before .before .count-lines2 .ensures .0, c .before .before .before .before .count-lines .ensures .0) refl, c .ruled .ensures .1)
 
 pub page-for-spec : {M : Type 1} → statement M
-page-for-spec =
-    tie.close
-    (tie.spec
-    (λ c. search needs)
-    (λ c. search needs)
-    (λ c κs. search needs)
-    (λ c. search needs)
-    (λ c. search needs)
-    (λ c. search needs)
-    (λ c κs. search needs)
-    (λ c κs. search needs)
-    (λ c κs. search needs)
-    (λ c κs. search needs)
-    returns)
+page-for-spec = tie.close (tie.spec (λ c. search needs) (λ c. search needs) (λ c κs. search needs) (λ c. search needs) (λ c. search needs) (λ c. search needs) (λ c κs. search needs) (λ c κs. search needs) (λ c κs. search needs) (λ c κs. search needs) returns)

@@ -9,6 +9,4 @@ unfolding pageHeight
 returns c = rw (c .per-column .ensures .0, c .before .bottom .ensures .0)
 
 pub page-height-spec : {M : Type 1} → statement M
-page-height-spec =
-    tie.close
-    (tie.spec (λ c κs. search needs) (λ c. search needs) (λ c κs. search needs) (λ c. search needs) (λ c. search needs) returns)
+page-height-spec = tie.close (tie.spec (λ c κs. search needs) (λ c. search needs) (λ c κs. search needs) (λ c. search needs) (λ c. search needs) returns)

@@ -13,13 +13,4 @@ unfolding pageWidth
 returns-2 c = rw (c .greater .ensures, c .before .times .ensures .0, c .before .before .if1 .left, c .before .before .before .size-of .ensures .0)
 
 pub page-width-spec : {M : Type 1} → statement M
-page-width-spec =
-    tie.close
-    (tie.spec
-    (λ c κs. search needs)
-    (λ c. search needs)
-    returns
-    (λ c κs. search needs)
-    (λ c κs. search needs)
-    (λ c. search needs)
-    returns-2)
+page-width-spec = tie.close (tie.spec (λ c κs. search needs) (λ c. search needs) returns (λ c κs. search needs) (λ c κs. search needs) (λ c. search needs) returns-2)

@@ -17,13 +17,4 @@ unfolding rowDown
 returns c = rw (c .per-column .ensures .0, c .before .bottom .ensures .0)
 
 pub row-down-spec : {M : Type 1} → statement M
-row-down-spec =
-    tie.close
-    (tie.spec
-    (λ c κs. search needs)
-    (λ c. search needs)
-    (λ c κs. search needs)
-    (λ c. search needs)
-    mul-result
-    add-result-2
-    returns)
+row-down-spec = tie.close (tie.spec (λ c κs. search needs) (λ c. search needs) (λ c κs. search needs) (λ c. search needs) mul-result add-result-2 returns)

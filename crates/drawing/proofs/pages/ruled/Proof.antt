@@ -12,13 +12,4 @@ unfolding ruled
 returns c = rw (c .cut .ensures) (rw (c .before .bands-from .ensures .0, c .before .before .greater2 .ensures, c .before .before .before .lesser .ensures, c .before .before .before .before .greater .ensures) refl, cut-fair _ _ _ _ _ _ (omega arith) (omega arith) (omega arith) (omega arith) (omega arith) (omega (arith, c .before .bands-from .ensures .2)))
 
 pub ruled-spec : {M : Type 1} → statement M
-ruled-spec =
-    tie.close
-    (tie.spec
-    (λ c κs. search needs)
-    (λ c κs. search needs)
-    (λ c. search needs)
-    (λ c κs. search needs)
-    (λ c κs. search needs)
-    (λ c κs. search needs)
-    returns)
+ruled-spec = tie.close (tie.spec (λ c κs. search needs) (λ c κs. search needs) (λ c. search needs) (λ c κs. search needs) (λ c κs. search needs) (λ c κs. search needs) returns)

@@ -21,6 +21,4 @@ unfolding scaled
 returns-3 c = rw (c .if2 .left) (refl, quotient-small _ _ (c .before .before .pre) .1)
 
 pub scaled-spec : {M : Type 1} → statement M
-scaled-spec =
-    tie.close
-    (tie.spec returns (λ c. search needs) (λ c. search needs) returns-2 (λ c. search needs) (λ c. search needs) returns-3)
+scaled-spec = tie.close (tie.spec returns (λ c. search needs) (λ c. search needs) returns-2 (λ c. search needs) (λ c. search needs) returns-3)

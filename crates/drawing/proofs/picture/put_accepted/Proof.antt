@@ -10,14 +10,4 @@ unfolding accepted
 returns c = rw (← c .before .before .before .before .before .before .before .before .before .before .before .before .before .before .before .before .page-width .ensures, ← c .before .before .before .before .before .before .before .before .before .before .before .before .before .before .before .page-height .ensures, emits-append, ← c .before .before .before .before .before .before .before .before .before .before .before .before .before .before .put-head .ensures, emits-append, ← c .before .before .before .before .before .before .before .before .before .before .put-title .ensures, emits-append, ← c .before .before .before .before .before .before .put-picture .ensures) (c .before .before .put-key .ensures)
 
 pub put-accepted-spec : {M : Type 1} → statement M
-put-accepted-spec =
-    tie.close
-    (tie.spec
-    (λ c κs. search needs)
-    (λ c κs. search needs)
-    (λ c κs. search needs)
-    (λ c κs. search needs)
-    (λ c κs. search needs)
-    (λ c κs. search needs)
-    (λ c. search needs)
-    returns)
+put-accepted-spec = tie.close (tie.spec (λ c κs. search needs) (λ c κs. search needs) (λ c κs. search needs) (λ c κs. search needs) (λ c κs. search needs) (λ c κs. search needs) (λ c. search needs) returns)

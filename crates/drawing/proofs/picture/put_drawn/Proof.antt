@@ -13,16 +13,4 @@ unfolding drawnFrom
 returns-2 c = rw (← c .before .before .before .before .before .is-line .ensures, c .before .before .before .before .if1 .left) (c .before .before .put-refusal .ensures)
 
 pub put-drawn-spec : {M : Type 1} → statement M
-put-drawn-spec =
-    tie.close
-    (tie.spec
-    (λ c. search needs)
-    (λ c κs. search needs)
-    (λ c κs. search needs)
-    (λ c κs. search needs)
-    (λ c. search needs)
-    returns
-    (λ c. search needs)
-    (λ c κs. search needs)
-    (λ c. search needs)
-    returns-2)
+put-drawn-spec = tie.close (tie.spec (λ c. search needs) (λ c κs. search needs) (λ c κs. search needs) (λ c κs. search needs) (λ c. search needs) returns (λ c. search needs) (λ c κs. search needs) (λ c. search needs) returns-2)

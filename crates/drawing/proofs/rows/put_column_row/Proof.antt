@@ -13,19 +13,4 @@ unfolding columnRow
 returns c = rw (← c .before .before .before .before .before .before .before .row-across .ensures, ← c .before .before .before .before .before .before .row-down .ensures) (c .before .before .put-filled .ensures)
 
 pub put-column-row-spec : {M : Type 1} → statement M
-put-column-row-spec =
-    tie.close
-    (tie.spec
-    (λ c. search needs)
-    (λ c. search needs)
-    (λ c. search needs)
-    (λ c. search needs)
-    (λ c. search needs)
-    (λ c. search needs)
-    row-across-requires
-    (λ c κs. search needs)
-    (λ c. search needs)
-    (λ c. search needs)
-    (λ c κs. search needs)
-    (λ c. search needs)
-    returns)
+put-column-row-spec = tie.close (tie.spec (λ c. search needs) (λ c. search needs) (λ c. search needs) (λ c. search needs) (λ c. search needs) (λ c. search needs) row-across-requires (λ c κs. search needs) (λ c. search needs) (λ c. search needs) (λ c κs. search needs) (λ c. search needs) returns)

@@ -9,14 +9,4 @@ unfolding plateRow
 returns c = rw (← c .before .before .before .before .before .before .before .row-across .ensures, ← c .before .before .before .before .before .before .row-down .ensures) (c .before .before .put-filled .ensures)
 
 pub put-plate-row-spec : {M : Type 1} → statement M
-put-plate-row-spec =
-    tie.close
-    (tie.spec
-    (λ c κs. search needs)
-    (λ c κs. search needs)
-    (λ c. search needs)
-    (λ c. search needs)
-    (λ c. search needs)
-    (λ c κs. search needs)
-    (λ c. search needs)
-    returns)
+put-plate-row-spec = tie.close (tie.spec (λ c κs. search needs) (λ c κs. search needs) (λ c. search needs) (λ c. search needs) (λ c. search needs) (λ c κs. search needs) (λ c. search needs) returns)

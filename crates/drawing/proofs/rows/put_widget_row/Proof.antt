@@ -9,14 +9,4 @@ unfolding widgetRow
 returns c = rw (← c .before .before .before .before .before .before .before .row-across .ensures, ← c .before .before .before .before .before .before .row-down .ensures) (c .before .before .put-filled .ensures)
 
 pub put-widget-row-spec : {M : Type 1} → statement M
-put-widget-row-spec =
-    tie.close
-    (tie.spec
-    (λ c κs. search needs)
-    (λ c κs. search needs)
-    (λ c. search needs)
-    (λ c. search needs)
-    (λ c. search needs)
-    (λ c κs. search needs)
-    (λ c. search needs)
-    returns)
+put-widget-row-spec = tie.close (tie.spec (λ c κs. search needs) (λ c κs. search needs) (λ c. search needs) (λ c. search needs) (λ c. search needs) (λ c κs. search needs) (λ c. search needs) returns)

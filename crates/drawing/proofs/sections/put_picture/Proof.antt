@@ -10,13 +10,4 @@ unfolding picture
 returns c = rw (emits-append, ← c .before .before .before .before .before .before .before .before .before .before .before .before .before .before .before .before .before .before .put-shapes .ensures, emits-append, ← c .before .before .before .before .before .before .before .before .before .before .before .before .before .before .put-each .ensures, emits-append, ← c .before .before .before .before .before .before .before .before .before .before .put-dimensions .ensures, emits-append, ← c .before .before .before .before .before .before .put-each2 .ensures) (c .before .before .put-scale .ensures)
 
 pub put-picture-spec : {M : Type 1} → statement M
-put-picture-spec =
-    tie.close
-    (tie.spec
-    (λ c κs. search needs)
-    (λ c κs. search needs)
-    (λ c κs. search needs)
-    (λ c κs. search needs)
-    (λ c κs. search needs)
-    (λ c. search needs)
-    returns)
+put-picture-spec = tie.close (tie.spec (λ c κs. search needs) (λ c κs. search needs) (λ c κs. search needs) (λ c κs. search needs) (λ c κs. search needs) (λ c. search needs) returns)

@@ -9,10 +9,4 @@ unfolding style
 returns c = c .before .before .put-words .ensures
 
 pub put-style-spec : {M : Type 1} → statement M
-put-style-spec =
-    tie.close
-    (tie.spec
-    (λ c. search needs)
-    (λ c κs. search needs)
-    (λ c. search needs)
-    returns)
+put-style-spec = tie.close (tie.spec (λ c. search needs) (λ c κs. search needs) (λ c. search needs) returns)

@@ -17,18 +17,4 @@ unfolding title
 returns c = rw (emits-append, ← c .before .before .before .before .before .before .before .before .before .before .before .before .before .before .before .before .before .before .before .before .before .before .put-words .ensures, emits-append, ← c .before .before .before .before .before .before .before .before .before .before .before .before .before .before .before .before .before .before .put-points .ensures, emits-append, ← c .before .before .before .before .before .before .before .before .before .before .before .before .before .put-words2 .ensures, emits-append, ← c .before .before .before .before .before .before .before .before .before .put-points2 .ensures) (c .before .before .put-filled .ensures)
 
 pub put-title-spec : {M : Type 1} → statement M
-put-title-spec =
-    tie.close
-    (tie.spec
-    (λ c. search needs)
-    (λ c κs. search needs)
-    (λ c κs. search needs)
-    (λ c. search needs)
-    (λ c κs. search needs)
-    (λ c κs. search needs)
-    (λ c. search needs)
-    mul-put-filled
-    (λ c. search needs)
-    put-filled-requires
-    (λ c. search needs)
-    returns)
+put-title-spec = tie.close (tie.spec (λ c. search needs) (λ c κs. search needs) (λ c κs. search needs) (λ c. search needs) (λ c κs. search needs) (λ c κs. search needs) (λ c. search needs) mul-put-filled (λ c. search needs) put-filled-requires (λ c. search needs) returns)

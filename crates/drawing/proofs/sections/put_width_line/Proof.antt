@@ -10,17 +10,4 @@ unfolding widthLine
 returns c = rw (← c .before .before .before .before .before .before .before .before .before .before .before .before .before .before .before .before .px .ensures .0, emits-append, ← c .before .before .before .before .before .before .before .before .before .before .before .before .put-filled .ensures, emits-append, ← c .before .before .before .before .before .before .before .before .put-points .ensures) (c .before .before .put-filled2 .ensures)
 
 pub put-width-line-spec : {M : Type 1} → statement M
-put-width-line-spec =
-    tie.close
-    (tie.spec
-    (λ c κs. search needs)
-    (λ c. search needs)
-    (λ c. search needs)
-    (λ c. search needs)
-    (λ c κs. search needs)
-    (λ c κs. search needs)
-    (λ c. search needs)
-    (λ c. search needs)
-    (λ c κs. search needs)
-    (λ c. search needs)
-    returns)
+put-width-line-spec = tie.close (tie.spec (λ c κs. search needs) (λ c. search needs) (λ c. search needs) (λ c. search needs) (λ c κs. search needs) (λ c κs. search needs) (λ c. search needs) (λ c. search needs) (λ c κs. search needs) (λ c. search needs) returns)

@@ -14,45 +14,11 @@ Inv-loop out₀ at template list line numbers end₀ mark₀ i₀ out end mark i
 abbrev μ-loop : tie.MeasureT-loop
 μ-loop out₀ at template list line numbers end₀ mark₀ i₀ out end mark i = length template - i
 
-loop-holds : tie.Need-loop-holds Inv-loop μ-loop
-loop-holds c = search needs
-
-shared-slice-read-b : tie.Need-shared-slice-read-b Inv-loop μ-loop
-shared-slice-read-b c = search needs
-
-put-part-requires : tie.Need-put-part-requires Inv-loop μ-loop
-put-part-requires c κs = search needs
-
-next-requires : tie.Need-next-requires Inv-loop μ-loop
-next-requires c κs = search needs
-
-add-i : tie.Need-add-i Inv-loop μ-loop
-add-i c = search needs
-
-loop-less : tie.Need-loop-less Inv-loop μ-loop
-loop-less c = search needs
-
 loop-again : tie.Need-loop-again Inv-loop μ-loop
 loop-again c = (c .before .before .before .put-part .kept .0 ∙ c .before .before .before .before .before .before .before .loop .inv .0, part-turn (c .before .before .before .before .before .before .before .before .before .before .before .before .args .template .now) (c .before .before .before .before .before .before .before .before .before .before .before .before .args .list .now) (c .before .before .before .before .before .before .before .before .before .before .before .before .args .line) (c .before .before .before .before .before .before .before .before .before .before .before .before .args .numbers .now) (c .before .before .before .before .before .before .before .loop .mark) (c .before .before .before .before .before .before .before .loop .i) _ _ (c .before .before .before .before .before .before .before .loop .inv .1) (c .before .before .before .before .before .before .loop-test .taken) _ _ (c .before .before .before .put-part .ensures) (c .next .ensures))
-
-same-length : tie.Need-same-length Inv-loop μ-loop
-same-length c = search needs
 
 returns : tie.Need-returns Inv-loop μ-loop
 returns c = part-end (c .before .before .before .before .before .before .args .template .now) (c .before .before .before .before .before .before .args .list .now) (c .before .before .before .before .before .before .args .line) (c .before .before .before .before .before .before .args .numbers .now) (c .before .loop .mark) (c .before .loop .i) _ _ (c .before .loop .inv .1) (c .loop-test .left)
 
 pub put-filled-spec : {M : Type 1} → statement M
-put-filled-spec =
-    tie.close
-    (tie.spec
-    Inv-loop
-    μ-loop
-    loop-holds
-    shared-slice-read-b
-    put-part-requires
-    next-requires
-    add-i
-    loop-less
-    loop-again
-    same-length
-    returns)
+put-filled-spec = tie.close (tie.spec Inv-loop μ-loop (λ c. search needs) (λ c. search needs) (λ c κs. search needs) (λ c κs. search needs) (λ c. search needs) (λ c. search needs) loop-again (λ c. search needs) returns)

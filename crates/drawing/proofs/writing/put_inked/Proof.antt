@@ -14,41 +14,11 @@ Inv-loop out₀ at bytes end₀ i₀ out end i = (length out ≡ length out₀) 
 abbrev μ-loop : tie.MeasureT-loop
 μ-loop out₀ at bytes end₀ i₀ out end i = length bytes - i
 
-loop-holds : tie.Need-loop-holds Inv-loop μ-loop
-loop-holds c = search needs
-
-shared-slice-read-put-ink : tie.Need-shared-slice-read-put-ink Inv-loop μ-loop
-shared-slice-read-put-ink c = search needs
-
-put-ink-requires : tie.Need-put-ink-requires Inv-loop μ-loop
-put-ink-requires c κs = search needs
-
-add-i : tie.Need-add-i Inv-loop μ-loop
-add-i c = search needs
-
-loop-less : tie.Need-loop-less Inv-loop μ-loop
-loop-less c = search needs
-
 loop-again : tie.Need-loop-again Inv-loop μ-loop
 loop-again c = (c .before .before .put-ink .kept .0 ∙ c .before .before .before .before .before .before .loop .inv .0, ink-turn (c .before .before .before .before .before .before .before .before .before .args .bytes .now) (c .before .before .before .before .before .before .loop .i) _ _ (c .before .before .before .before .before .before .loop .inv .1) (c .before .before .before .before .before .loop-test .taken) _ (c .before .before .put-ink .ensures))
-
-same-length : tie.Need-same-length Inv-loop μ-loop
-same-length c = search needs
 
 returns : tie.Need-returns Inv-loop μ-loop
 returns c = ink-end (c .before .before .before .before .args .bytes .now) (c .before .loop .i) _ _ (c .before .loop .inv .1) (c .loop-test .left)
 
 pub put-inked-spec : {M : Type 1} → statement M
-put-inked-spec =
-    tie.close
-    (tie.spec
-    Inv-loop
-    μ-loop
-    loop-holds
-    shared-slice-read-put-ink
-    put-ink-requires
-    add-i
-    loop-less
-    loop-again
-    same-length
-    returns)
+put-inked-spec = tie.close (tie.spec Inv-loop μ-loop (λ c. search needs) (λ c. search needs) (λ c κs. search needs) (λ c. search needs) (λ c. search needs) loop-again (λ c. search needs) returns)

@@ -15,6 +15,4 @@ returns-2 : tie.Need-returns-2
 returns-2 c = let e : Same (c .before .before .before .before .before .before .args .z) = search needs in rw (c .if1 .left) at (number-put _ _ _ _ (c .before .before .before .before .before .before .pre) (c .before .before .before .write-field .result) (rw e at (c .before .before .before .write-field .ensures)))
 
 pub put-number-spec : {M : Type 1} → statement M
-put-number-spec =
-    tie.close
-    (tie.spec (λ c κs. search needs) add-result (λ c. search needs) returns (λ c. search needs) returns-2)
+put-number-spec = tie.close (tie.spec (λ c κs. search needs) add-result (λ c. search needs) returns (λ c. search needs) returns-2)

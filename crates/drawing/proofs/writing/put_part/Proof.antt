@@ -32,23 +32,4 @@ unfolding part
 returns-4 c = rw (ne-eqb _ _ (c .before .before .before .before .match .rest .0 .0 .1), ne-eqb _ _ (c .before .before .before .before .match .rest .0 .1), ne-eqb _ _ (c .before .before .before .before .match .rest .1)) (c .before .before .put-unmarked .ensures)
 
 pub put-part-spec : {M : Type 1} → statement M
-put-part-spec =
-    tie.close
-    (tie.spec
-    (λ c. search needs)
-    (λ c κs. search needs)
-    put-plain-requires
-    (λ c κs. search needs)
-    put-number-requires
-    (λ c κs. search needs)
-    (λ c κs. search needs)
-    put-plain-requires-2
-    (λ c κs. search needs)
-    (λ c. search needs)
-    returns
-    (λ c. search needs)
-    returns-2
-    (λ c. search needs)
-    returns-3
-    (λ c. search needs)
-    returns-4)
+put-part-spec = tie.close (tie.spec (λ c. search needs) (λ c κs. search needs) put-plain-requires (λ c κs. search needs) put-number-requires (λ c κs. search needs) (λ c κs. search needs) put-plain-requires-2 (λ c κs. search needs) (λ c. search needs) returns (λ c. search needs) returns-2 (λ c. search needs) returns-3 (λ c. search needs) returns-4)

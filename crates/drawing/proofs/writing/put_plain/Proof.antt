@@ -9,12 +9,4 @@ returns : tie.Need-returns
 returns c = let e : Same (c .before .before .before .before .before .before .before .before .before .args .z) = search needs in rw (text-over _ _ _ (c .before .before .before .before .before .before .before .before .before .pre) (rw e at (c .before .before .before .before .before .before .write-field .ensures))) at (c .before .before .put-inked .ensures)
 
 pub put-plain-spec : {M : Type 1} → statement M
-put-plain-spec =
-    tie.close
-    (tie.spec
-    (λ c. search needs)
-    (λ c κs. search needs)
-    (λ c. search needs)
-    (λ c κs. search needs)
-    (λ c. search needs)
-    returns)
+put-plain-spec = tie.close (tie.spec (λ c. search needs) (λ c κs. search needs) (λ c. search needs) (λ c κs. search needs) (λ c. search needs) returns)

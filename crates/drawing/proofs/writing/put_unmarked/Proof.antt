@@ -14,5 +14,4 @@ unfolding unmarked emits
 returns-2 c = rw (← c .before .marked .ensures, ne-eqb _ _ (c .if1 .left))
 
 pub put-unmarked-spec : {M : Type 1} → statement M
-put-unmarked-spec =
-    tie.close (tie.spec (λ c κs. search needs) (λ c κs. search needs) (λ c. search needs) returns returns-2)
+put-unmarked-spec = tie.close (tie.spec (λ c κs. search needs) (λ c κs. search needs) (λ c. search needs) returns returns-2)

@@ -32,6 +32,4 @@ unfolding ofBits neg
 returns-5 c = sym (from-high (c .before .args .y) (T-of (c .before .good .0 .1)) (c .if1 .left))
 
 pub near-any-spec : {M : Type 1} → statement M
-near-any-spec =
-    tie.close
-    (tie.spec near-requires near-requires-2 (λ c. search needs) returns-2 returns-3 returns-4 returns-5)
+near-any-spec = tie.close (tie.spec near-requires near-requires-2 (λ c. search needs) returns-2 returns-3 returns-4 returns-5)

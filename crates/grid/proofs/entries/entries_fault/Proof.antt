@@ -18,18 +18,6 @@ abbrev μ-loop : tie.MeasureT-loop
 loop-holds : tie.Need-loop-holds Inv-loop μ-loop
 loop-holds c = (omega arith, fault-start (c .before .args .xs .now) (c .before .args .n))
 
-sub-i : tie.Need-sub-i Inv-loop μ-loop
-sub-i c = search needs
-
-mul-extent-fault : tie.Need-mul-extent-fault Inv-loop μ-loop
-mul-extent-fault c = search needs
-
-shared-slice-read-extent-fault : tie.Need-shared-slice-read-extent-fault Inv-loop μ-loop
-shared-slice-read-extent-fault c = search needs
-
-loop-less : tie.Need-loop-less Inv-loop μ-loop
-loop-less c = search needs
-
 loop-again : tie.Need-loop-again Inv-loop μ-loop
 loop-again c =
     let l = c .before .before .before .before .loop in
@@ -42,4 +30,4 @@ returns c =
     rw p at (l .inv .1)
 
 pub entries-fault-spec : {M : Type 1} → statement M
-entries-fault-spec = tie.close (tie.spec Inv-loop μ-loop loop-holds sub-i mul-extent-fault shared-slice-read-extent-fault (λ c κs. tt) (λ c κs. tt) loop-less loop-again returns)
+entries-fault-spec = tie.close (tie.spec Inv-loop μ-loop loop-holds (λ c. search needs) (λ c. search needs) (λ c. search needs) (λ c κs. tt) (λ c κs. tt) (λ c. search needs) loop-again returns)

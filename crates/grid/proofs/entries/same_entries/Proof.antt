@@ -18,24 +18,6 @@ abbrev μ-loop : tie.MeasureT-loop
 loop-holds : tie.Need-loop-holds Inv-loop μ-loop
 loop-holds c = (omega arith, same-start (c .args .xs .now) (c .args .ys .now) (c .args .n))
 
-sub-i : tie.Need-sub-i Inv-loop μ-loop
-sub-i c = search needs
-
-mul-same : tie.Need-mul-same Inv-loop μ-loop
-mul-same c = search needs
-
-shared-slice-read-same : tie.Need-shared-slice-read-same Inv-loop μ-loop
-shared-slice-read-same c = search needs
-
-mul-same-2 : tie.Need-mul-same-2 Inv-loop μ-loop
-mul-same-2 c = search needs
-
-shared-slice-read-same-2 : tie.Need-shared-slice-read-same-2 Inv-loop μ-loop
-shared-slice-read-same-2 c = search needs
-
-loop-less : tie.Need-loop-less Inv-loop μ-loop
-loop-less c = search needs
-
 loop-again : tie.Need-loop-again Inv-loop μ-loop
 loop-again c =
     let l = c .before .before .before .loop in
@@ -48,4 +30,4 @@ returns c =
     rw p at (l .inv .1)
 
 pub same-entries-spec : {M : Type 1} → statement M
-same-entries-spec = tie.close (tie.spec Inv-loop μ-loop loop-holds sub-i mul-same shared-slice-read-same mul-same-2 shared-slice-read-same-2 loop-less loop-again returns)
+same-entries-spec = tie.close (tie.spec Inv-loop μ-loop loop-holds (λ c. search needs) (λ c. search needs) (λ c. search needs) (λ c. search needs) (λ c. search needs) (λ c. search needs) loop-again returns)

@@ -64,19 +64,4 @@ returns-4 c =
     simp (lt-leb _ _ h, c .if2 .left)
 
 pub column-spec : {M : Type 1} → statement M
-column-spec =
-    tie.close
-    (tie.spec
-    (λ c κs. search needs)
-    (λ c κs. search needs)
-    div-result
-    mul-result
-    div-result-2
-    mul-result-2
-    sub-result
-    cast-result
-    add-result
-    returns
-    returns-2
-    returns-3
-    returns-4)
+column-spec = tie.close (tie.spec (λ c κs. search needs) (λ c κs. search needs) div-result mul-result div-result-2 mul-result-2 sub-result cast-result add-result returns returns-2 returns-3 returns-4)

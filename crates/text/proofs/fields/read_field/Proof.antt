@@ -22,14 +22,4 @@ returns-3 c =
     found _ _ _ _ (search needs) (c .read-columns .ensures ∙ ap (λ (n : ℕ). field (a .limit) (take n (drop (a .at) (a .text .now)))) e)
 
 pub read-field-spec : {M : Type 1} → statement M
-read-field-spec =
-    tie.close
-    (tie.spec
-    returns
-    returns-2
-    (λ c. search needs)
-    (λ c. search needs)
-    (λ c. search needs)
-    (λ c. search needs)
-    (λ c κs. search needs)
-    returns-3)
+read-field-spec = tie.close (tie.spec returns returns-2 (λ c. search needs) (λ c. search needs) (λ c. search needs) (λ c. search needs) (λ c κs. search needs) returns-3)

@@ -19,6 +19,4 @@ returns-4 : tie.Need-returns-4
 returns-4 c = (digits-first (c .before .before .before .before .before .args .f .now) (c .before .before .before .before .before .args .at) (c .before .before .before .if1 .left) _ (c .before .if2 .left) (c .value .ensures .0), c .value .ensures .1)
 
 pub unsigned-spec : {M : Type 1} → statement M
-unsigned-spec =
-    tie.close
-    (tie.spec returns (λ c. search needs) (λ c. search needs) returns-2 returns-3 (λ c κs. search needs) returns-4)
+unsigned-spec = tie.close (tie.spec returns (λ c. search needs) (λ c. search needs) returns-2 returns-3 (λ c κs. search needs) returns-4)

@@ -19,9 +19,6 @@ abbrev μ-loop : tie.MeasureT-loop
 loop-holds : tie.Need-loop-holds Inv-loop μ-loop
 loop-holds c = (search needs, ten-pos _, refl)
 
-shared-slice-read-b : tie.Need-shared-slice-read-b Inv-loop μ-loop
-shared-slice-read-b c = search needs
-
 returns : tie.Need-returns Inv-loop μ-loop
 returns c = (too-low (c .before .before .before .before .args .f .now) (c .before .before .before .loop .acc) (c .before .before .before .loop .k) _ (c .before .before .before .loop .inv .2) (c .before .before .loop-test .taken) (c .if1 .taken), λ h. absurd (h refl))
 
@@ -31,17 +28,8 @@ returns-2 c = (too-high (c .before .before .before .before .before .args .f .now
 mul-acc : tie.Need-mul-acc Inv-loop μ-loop
 mul-acc c = let p = seven (c .before .before .before .before .loop .k) (omega arith) in search needs
 
-cast-acc : tie.Need-cast-acc Inv-loop μ-loop
-cast-acc c = search needs
-
 add-acc : tie.Need-add-acc Inv-loop μ-loop
 add-acc c = let p = seven (c .before .before .before .before .loop .k) (omega arith) in search needs
-
-add-k : tie.Need-add-k Inv-loop μ-loop
-add-k c = search needs
-
-loop-less : tie.Need-loop-less Inv-loop μ-loop
-loop-less c = search needs
 
 loop-again : tie.Need-loop-again Inv-loop μ-loop
 loop-again c = (search needs, few (c .before .before .before .before .loop .acc) _ (c .before .before .before .before .loop .k) (c .before .before .before .before .loop .inv .1) (omega arith), value-turn (c .before .before .before .before .before .args .f .now) (c .before .before .before .before .loop .acc) (c .before .before .before .before .loop .k) _ (c .before .before .before .before .loop .inv .2) (c .before .before .before .loop-test .taken) (c .before .if1 .left) (c .if2 .left))
@@ -50,19 +38,4 @@ returns-3 : tie.Need-returns-3 Inv-loop μ-loop
 returns-3 c = (value-end (c .before .before .args .f .now) (c .before .loop .acc) (c .before .loop .k) _ (c .before .loop .inv .2) (c .loop-test .left), λ h. omega (arith, c .before .loop .inv .1, eight (c .before .loop .k) (c .before .loop .inv .0)))
 
 pub value-spec : {M : Type 1} → statement M
-value-spec =
-    tie.close
-    (tie.spec
-    Inv-loop
-    μ-loop
-    loop-holds
-    shared-slice-read-b
-    returns
-    returns-2
-    mul-acc
-    cast-acc
-    add-acc
-    add-k
-    loop-less
-    loop-again
-    returns-3)
+value-spec = tie.close (tie.spec Inv-loop μ-loop loop-holds (λ c. search needs) returns returns-2 mul-acc (λ c. search needs) add-acc (λ c. search needs) (λ c. search needs) loop-again returns-3)

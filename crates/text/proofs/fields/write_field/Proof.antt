@@ -34,13 +34,4 @@ returns-4 c =
     no-text _ _ _ (search needs) (sym (ap hasText (toZ-ofZ w32 (a .args .z) (a .fits .z))) ∙ sym (c .before .has-text .ensures) ∙ c .if3 .left)
 
 pub write-field-spec : {M : Type 1} → statement M
-write-field-spec =
-    tie.close
-    (tie.spec
-    returns
-    returns-2
-    (λ c κs. search needs)
-    put-signed-requires
-    (λ c. search needs)
-    returns-3
-    returns-4)
+write-field-spec = tie.close (tie.spec returns returns-2 (λ c κs. search needs) put-signed-requires (λ c. search needs) returns-3 returns-4)

@@ -18,24 +18,6 @@ Inv-loop numbers i₀ i = haveTexts (drop i numbers) ≡ haveTexts numbers
 abbrev μ-loop : tie.MeasureT-loop
 μ-loop numbers i₀ i = length numbers - i
 
-loop-holds : tie.Need-loop-holds Inv-loop μ-loop
-loop-holds c = search needs
-
-mul-has-text : tie.Need-mul-has-text Inv-loop μ-loop
-mul-has-text c = search needs
-
-shared-slice-copy-out-has-text : tie.Need-shared-slice-copy-out-has-text Inv-loop μ-loop
-shared-slice-copy-out-has-text c = search needs
-
-has-text-requires : tie.Need-has-text-requires Inv-loop μ-loop
-has-text-requires c κs = search needs
-
-add-i : tie.Need-add-i Inv-loop μ-loop
-add-i c = search needs
-
-loop-less : tie.Need-loop-less Inv-loop μ-loop
-loop-less c = search needs
-
 loop-again : tie.Need-loop-again Inv-loop μ-loop
 loop-again c =
     let e : toZ w32 (ofZ w32 (getD (c .before .before .before .before .before .args .numbers .now) (c .before .before .before .before .loop .i) (pos 0))) ≡ getD (c .before .before .before .before .before .args .numbers .now) (c .before .before .before .before .loop .i) (pos 0) = search needs in
@@ -50,17 +32,4 @@ returns-2 : tie.Need-returns-2 Inv-loop μ-loop
 returns-2 c = have-end (c .before .before .args .numbers .now) (c .before .loop .i) _ (c .before .loop .inv) (c .loop-test .left)
 
 pub have-texts-spec : {M : Type 1} → statement M
-have-texts-spec =
-    tie.close
-    (tie.spec
-    Inv-loop
-    μ-loop
-    loop-holds
-    mul-has-text
-    shared-slice-copy-out-has-text
-    has-text-requires
-    add-i
-    loop-less
-    loop-again
-    returns
-    returns-2)
+have-texts-spec = tie.close (tie.spec Inv-loop μ-loop (λ c. search needs) (λ c. search needs) (λ c. search needs) (λ c κs. search needs) (λ c. search needs) (λ c. search needs) loop-again returns returns-2)

@@ -20,15 +20,4 @@ returns : tie.Need-returns
 returns c = line-put _ _ _ _ _ (c .before .before .put-texts .ensures)
 
 pub put-line-spec : {M : Type 1} → statement M
-put-line-spec =
-    tie.close
-    (tie.spec
-    (λ c. search needs)
-    (λ c. search needs)
-    put-texts-requires
-    (λ c. search needs)
-    (λ c. search needs)
-    (λ c. search needs)
-    slice-write-out-2
-    same-length
-    returns)
+put-line-spec = tie.close (tie.spec (λ c. search needs) (λ c. search needs) put-texts-requires (λ c. search needs) (λ c. search needs) (λ c. search needs) slice-write-out-2 same-length returns)

@@ -22,15 +22,6 @@ Inv-loop out₀ at numbers i₀ q₀ out i q = (length out ≡ length out₀) ×
 abbrev μ-loop : tie.MeasureT-loop
 μ-loop out₀ at numbers i₀ q₀ out i q = length numbers - i
 
-loop-holds : tie.Need-loop-holds Inv-loop μ-loop
-loop-holds c = search needs
-
-mul-z : tie.Need-mul-z Inv-loop μ-loop
-mul-z c = search needs
-
-shared-slice-copy-out-z : tie.Need-shared-slice-copy-out-z Inv-loop μ-loop
-shared-slice-copy-out-z c = search needs
-
 put-signed-requires : tie.Need-put-signed-requires Inv-loop μ-loop
 put-signed-requires c κs =
     let zs = c .before .before .before .before .before .args .numbers .now in
@@ -38,15 +29,6 @@ put-signed-requires c κs =
     let e : toZ w32 (ofZ w32 (getD zs (l .i) (pos 0))) ≡ getD zs (l .i) (pos 0) = search needs in
     let t : hasText (getD zs (l .i) (pos 0)) ≡ true = have-this zs (l .i) (c .before .before .loop-test .taken) (l .inv .3) in
     (omega arith, rw e (has-text-small (getD zs (l .i) (pos 0)) t))
-
-add-i : tie.Need-add-i Inv-loop μ-loop
-add-i c = search needs
-
-add-q : tie.Need-add-q Inv-loop μ-loop
-add-q c = search needs
-
-loop-less : tie.Need-loop-less Inv-loop μ-loop
-loop-less c = search needs
 
 loop-again : tie.Need-loop-again Inv-loop μ-loop
 loop-again c =
@@ -61,25 +43,8 @@ loop-again c =
       put-more zs (l .i) more (l .inv .3) (l .out) _ _ (l .q) (l .inv .4) (c .before .before .put-signed .ensures ∙ ap (λ (z : ℤ). sets (l .out) (l .q) (text z)) e),
     )
 
-same-length : tie.Need-same-length Inv-loop μ-loop
-same-length c = search needs
-
 returns : tie.Need-returns Inv-loop μ-loop
 returns c = put-none (c .before .before .before .args .numbers .now) (c .before .loop .i) _ _ (c .before .loop .q) (c .loop-test .left) (c .before .loop .inv .4)
 
 pub put-texts-spec : {M : Type 1} → statement M
-put-texts-spec =
-    tie.close
-    (tie.spec
-    Inv-loop
-    μ-loop
-    loop-holds
-    mul-z
-    shared-slice-copy-out-z
-    put-signed-requires
-    add-i
-    add-q
-    loop-less
-    loop-again
-    same-length
-    returns)
+put-texts-spec = tie.close (tie.spec Inv-loop μ-loop (λ c. search needs) (λ c. search needs) (λ c. search needs) put-signed-requires (λ c. search needs) (λ c. search needs) (λ c. search needs) loop-again (λ c. search needs) returns)

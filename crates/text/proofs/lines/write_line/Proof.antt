@@ -26,15 +26,4 @@ returns-5 : tie.Need-returns-5
 returns-5 c = no-texts (c .before .before .before .before .before .before .args .out .now) (c .before .before .before .before .before .before .args .at) _ (c .before .before .before .before .before .before .args .numbers .now) (omega arith) (sym (c .before .have-texts .ensures) ∙ c .if4 .left)
 
 pub write-line-spec : {M : Type 1} → statement M
-write-line-spec =
-    tie.close
-    (tie.spec
-    returns
-    returns-2
-    (λ c. search needs)
-    returns-3
-    (λ c κs. search needs)
-    put-line-requires
-    (λ c. search needs)
-    returns-4
-    returns-5)
+write-line-spec = tie.close (tie.spec returns returns-2 (λ c. search needs) returns-3 (λ c κs. search needs) put-line-requires (λ c. search needs) returns-4 returns-5)

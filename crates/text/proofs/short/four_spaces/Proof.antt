@@ -40,21 +40,4 @@ returns : tie.Need-returns
 returns c e = four-skipped (c .before .before .before .before .args .f .now) (omega arith) (λ i. omega (arith, c .shared-slice-known4 .given i)) (eqb-true _ _ e)
 
 pub four-spaces-spec : {M : Type 1} → statement M
-four-spaces-spec =
-    tie.close
-    (tie.spec
-    (λ c. search needs)
-    cast-a
-    (λ c. search needs)
-    cast-b
-    (λ c. search needs)
-    cast-c
-    (λ c. search needs)
-    cast-d
-    mul-result
-    add-result
-    mul-result-2
-    add-result-2
-    mul-result-3
-    add-result-3
-    returns)
+four-spaces-spec = tie.close (tie.spec (λ c. search needs) cast-a (λ c. search needs) cast-b (λ c. search needs) cast-c (λ c. search needs) cast-d mul-result add-result mul-result-2 add-result-2 mul-result-3 add-result-3 returns)

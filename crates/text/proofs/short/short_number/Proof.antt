@@ -28,16 +28,4 @@ returns-2 : tie.Need-returns-2
 returns-2 c = λ h. absurd (h refl)
 
 pub short-number-spec : {M : Type 1} → statement M
-short-number-spec =
-    tie.close
-    (tie.spec
-    (λ c. search needs)
-    (λ c. search needs)
-    (λ c. search needs)
-    (λ c. search needs)
-    (λ c κs. search needs)
-    (λ c κs. search needs)
-    (λ c κs. search needs)
-    number-requires
-    returns
-    returns-2)
+short-number-spec = tie.close (tie.spec (λ c. search needs) (λ c. search needs) (λ c. search needs) (λ c. search needs) (λ c κs. search needs) (λ c κs. search needs) (λ c κs. search needs) number-requires returns returns-2)

@@ -7,7 +7,6 @@ use Rattle.emath.specs.Rectangles.{zeroF, maxF, atLeast, atMost, width, height,
 use Rattle.emath.specs.Domain.{finite}
 use Rattle.region.specs.Regions.{zeroVec}
 use Rattle.region.specs.Refusals.{zeroRect}
-use types.Kit.{frame}
 use Rattle.grid.specs.Memories.{emptyMemory, setMinColWidth, setMinRowHeight, colWidth, rowHeight, sameMemory}
 use Rattle.emath.specs.declared.Rect.{Rect}
 use Rattle.emath.specs.declared.Vec2.{Vec2}

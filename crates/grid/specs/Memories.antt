@@ -6,7 +6,6 @@ use lib.Dec.{ltb}
 use lib.IntN.{pos}
 use lib.ListN.{length, take}
 use lib.Ieee.{Float, binary32, add, mul, ofInt}
-use Rattle.emath.specs.Refusals.{least}
 use Rattle.grid.specs.Entries.{entry, raised, total, sameEntries, zeros}
 use Rattle.grid.specs.declared.Memory.{Memory}
 

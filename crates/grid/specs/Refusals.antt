@@ -9,10 +9,8 @@ use Rattle.emath.specs.Numbers as number
 use Rattle.emath.specs.Refusals.{when, least, pairFault, sizeFault, edgesFault}
 use Rattle.region.specs.Regions.{infinity}
 use Rattle.region.specs.Refusals.{excused, cursorFault}
-use Rattle.region.specs.Operations.{moved}
 use Rattle.grid.specs.Entries.{entriesFault}
 use Rattle.grid.specs.Memories.{widths, heights}
-use Rattle.grid.specs.Grids.{save}
 use Rattle.emath.specs.declared.Vec2.{Vec2}
 use Rattle.region.specs.declared.Direction.{Direction}
 use Rattle.region.specs.declared.Direction.the-variants.{LeftToRight, RightToLeft, TopDown, BottomUp}

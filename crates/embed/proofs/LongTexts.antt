@@ -18,7 +18,7 @@ use Rattle.records.specs.declared.Checked.{Checked}
 use Rattle.records.specs.declared.Checked.the-variants.{Accepted, Refused}
 use Rattle.records.proofs.Prefixes.{Prefix, long-text}
 use Rattle.sheet.specs.Texts.{sheetIn}
-use Rattle.sheet.specs.Slices.{LaidOut, judged, laid}
+use Rattle.sheet.specs.Slices.{LaidOut, afterCheck, laid}
 use Rattle.listing.specs.Lists.{settledFrom, settled}
 
 same-text : (text : List ℕ) (room : ℕ) → Prefix text room
@@ -30,17 +30,17 @@ same-text text room = go (leb (length text) 50177) refl
         record { check = ap (λ (t : List ℕ). checked t room) s; heading = ap headingIn s; steps = ap (λ (t : List ℕ). records t) s }
     go false e = let l = leb-false (length text) 50177 e in long-text text room (omega (arith, l))
 
-same-judged : (s t : List ℕ) → headingIn s ≡ headingIn t → records s ≡ records t → (c : Checked) (known : Bool) (m : Memory) (sizing : Bool) (out : List ℤ)
-    → judged c s known m sizing out ≡ judged c t known m sizing out
-unfolding judged
-same-judged s t h e (Refused n at) known m sizing out = refl
-same-judged s t h e (Accepted r w) known m sizing out = rw (e, h)
+same-after : (s t : List ℕ) → headingIn s ≡ headingIn t → records s ≡ records t → (c : Checked) (known : Bool) (m : Memory) (sizing : Bool) (out : List ℤ)
+    → afterCheck c s known m sizing out ≡ afterCheck c t known m sizing out
+unfolding afterCheck
+same-after s t h e (Refused n at) known m sizing out = refl
+same-after s t h e (Accepted r w) known m sizing out = rw (e, h)
 
 pub long-laid : (text : List ℕ) (known : Bool) (m : Memory) (sizing : Bool) (out : List ℤ) → laid (take 50177 text) known m sizing out ≡ laid text known m sizing out
 unfolding laid
 long-laid text known m sizing out =
     let p = same-text text (length out) in
-    ap (λ (c : Checked). judged c (take 50177 text) known m sizing out) (p .check) ∙ same-judged (take 50177 text) text (p .heading) (p .steps) (checked text (length out)) known m sizing out
+    ap (λ (c : Checked). afterCheck c (take 50177 text) known m sizing out) (p .check) ∙ same-after (take 50177 text) text (p .heading) (p .steps) (checked text (length out)) known m sizing out
 
 from-same : (text : List ℕ) (l : LaidOut) → settledFrom (take 50177 text) l ≡ settledFrom text l
 unfolding settledFrom

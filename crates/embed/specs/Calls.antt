@@ -18,19 +18,19 @@ abbrev pub memoryOf : List Float → ℕ → List Float → ℕ → Memory
 memoryOf widths cols heights rows = record { «col_widths» = widths; cols = cols; «row_heights» = heights; rows = rows }
 
 -- the refusal's number and record (0 and 0: accepted), the slice of the rectangles, the plate's edges in ticks, the memory
-pub record Handed : Type 0 where
+pub record Exported : Type 0 where
   pub number : ℕ
   pub at : ℕ
   pub places : List ℤ
   pub plate : List ℤ
   pub memory : Memory
 
-abbrev pub handed : LaidOut → Handed
-handed l = record { number = l .outcome .number; at = l .outcome .at; places = l .slice; plate = edges (inTicks tick (l .outcome .plate)); memory = l .outcome .memory }
+abbrev pub exported : LaidOut → Exported
+exported l = record { number = l .outcome .number; at = l .outcome .at; places = l .slice; plate = edges (inTicks tick (l .outcome .plate)); memory = l .outcome .memory }
 
 -- one pass, with the memory (where it is known) and sizing or not; and whether the memory is to be saved
-abbrev pub onePass : List ℕ → Bool → Memory → Bool → List ℤ → Handed × Bool
-onePass text known m sizing out = (handed (laid text known m sizing out), laid text known m sizing out .outcome .save)
+abbrev pub onePass : List ℕ → Bool → Memory → Bool → List ℤ → Exported × Bool
+onePass text known m sizing out = (exported (laid text known m sizing out), laid text known m sizing out .outcome .save)
 
 -- a text's length, and a slice with the text from its start where all of it has room; else the slice as it was
 unfoldable pub whole : List ℕ → List ℕ → ℕ × List ℕ

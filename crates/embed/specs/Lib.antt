@@ -1,4 +1,2 @@
 -- What a reader must believe of this crate: what each call leaves in the caller's memory.
 pub mod Calls
--- Not part of the specification.
-pub mod Implementation

@@ -1,10 +1,10 @@
 // The calls of include/platelist.h, for C and Rust: from a sheet's text to rectangles, plate, memory, list and drawing, all in the caller's memory.
-mod handing;
+mod exports;
 
 use drawing::MAX_DRAWING;
-use handing::copy_whole;
-use handing::memory_of;
-use handing::put_passed;
+use exports::copy_whole;
+use exports::memory_of;
+use exports::put_passed;
 use listing::MAX_LIST;
 use listing::printing::print;
 use listing::printing::settle;
@@ -14,7 +14,7 @@ ghost use mathlib.Core.Path.{_≡_};
 ghost use Prim.Native.Nat.{_≤_};
 ghost use Rattle.drawing.specs.Pictures.{drawnIn};
 ghost use Rattle.listing.specs.Lists.{listOf, settled};
-ghost use Rattle.embed.specs.Calls.{memoryOf, handed, onePass, listInto};
+ghost use Rattle.embed.specs.Calls.{memoryOf, exported, onePass, listInto};
 
 // One pass: with the memory in the arrays where it is known, sizing or not. It answers the number, 0 where the sheet is accepted.
 #[no_mangle]
@@ -51,7 +51,7 @@ pub extern "C" fn platelist_settle(
     rows: &mut usize,
     at: &mut usize,
 ) -> u8
-    ensures { λ n. ⌜ record { number = n; at = now (at .exit); places = now (places .exit); plate = now (plate .exit); memory = memoryOf (now (widths .exit)) (now (cols .exit)) (now (heights .exit)) (now (rows .exit)) } ≡ handed (settled (now (text .entry)) (now (places .entry))) ⌝ }
+    ensures { λ n. ⌜ record { number = n; at = now (at .exit); places = now (places .exit); plate = now (plate .exit); memory = memoryOf (now (widths .exit)) (now (cols .exit)) (now (heights .exit)) (now (rows .exit)) } ≡ exported (settled (now (text .entry)) (now (places .entry))) ⌝ }
 {
     let p = settle(text, places);
     put_passed(plate, widths, cols, heights, rows, at, p)

@@ -7,13 +7,13 @@ use lib.Dec.{eqb}
 use Rattle.records.specs.Parts.{letter, ends, lengthIn, isLength, lengthValue}
 use Rattle.records.specs.Records.{pick, stepRecord, widgetRecord, singleRecord, recordOf}
 use Rattle.records.specs.Sheets.{widget, widgetStep}
-use Rattle.records.specs.Implementation.Keeping.{isStep}
+use Rattle.records.specs.Implementation.SizeCache.{isStep}
 use Rattle.records.specs.declared.Step.{Step}
 use Rattle.records.specs.declared.Step.the-variants.{Widget, Space, RowHeight, MaxWidth, MaxHeight, MinWidth, MinHeight, RowEnd}
 use Rattle.records.specs.declared.Record.{Record}
 use Rattle.records.specs.declared.Record.the-variants.{Wrong}
 use Rattle.sheet.proofs.WalkedPasses.{no-such}
-use Rattle.listing.specs.Implementation.Putting.{mark}
+use Rattle.listing.specs.Implementation.ListWriter.{mark}
 
 -- a record with w W, or none
 data Holds (w : ℕ) : Record → Type 0 where

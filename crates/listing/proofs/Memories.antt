@@ -16,7 +16,7 @@ use Rattle.sheet.specs.Passes.{passes}
 use Rattle.pass_laws.specs.WholeSheets.{WholeSheet}
 use Rattle.pass_laws.proofs.Listed.{Listed, listed-empty, listed-sound}
 use Rattle.pass_laws.proofs.FurtherPasses.{first-gives-back, memory-kept}
-use Rattle.listing.specs.Implementation.Putting.{Whole, none, more, WholeMemory}
+use Rattle.listing.specs.Implementation.ListWriter.{Whole, none, more, WholeMemory}
 
 ticks-whole : (ns : List ℕ) → Upto (most 5) ns → Whole (map (len 5) ns)
 ticks-whole [] empty = none

@@ -1,7 +1,7 @@
 -- Each W of a text has a control, and what stands after H says whether there is a grid. And a refusal's record is never beyond the text.
 -- Assumes nothing.
-use Prim.Native.Nat.{ℕ, zero, suc, _+_, _*_, _≤_}
-use mathlib.Core.Path.{_≡_, refl}
+use Prim.Native.Nat.{ℕ, suc, _+_, _*_, _≤_}
+use mathlib.Core.Path.{_≡_, refl, ap, sym, _∙_}
 use mathlib.Core.Bool.{Bool, true, false, cond}
 use mathlib.Core.List.{List, [], _∷_}
 use native.Mathlib.Omega.{arith}
@@ -15,17 +15,18 @@ use Rattle.grid.specs.declared.Memory.{Memory}
 use Rattle.placer.specs.declared.Placer.{Placer}
 use Rattle.records.specs.Records.{headingFits, gridFits, rest}
 use Rattle.records.specs.Headings.{hasGrid, headingIn, headingFault}
-use Rattle.records.specs.Sheets.{recordsFrom, stepsLeft, records, afterAll, wrongFrom, misplaced, widget, widgets, isEmpty, pick, sized, checked}
+use Rattle.records.specs.Sheets.{stepsLeft, records, afterAll, wrongFrom, misplaced, widget, widgets, isEmpty, Fault, sheetFault, checked, checkedRecord}
 use Rattle.records.specs.declared.Checked.{Checked}
 use Rattle.records.specs.declared.Checked.the-variants.{Accepted, Refused}
 use Rattle.records.specs.declared.Step.{Step}
 use Rattle.records.specs.declared.Record.{Record}
 use Rattle.records.specs.declared.Record.the-variants as record-of
 use Rattle.records.proofs.Prefixes.{few-records}
+use Rattle.records.proofs.Reached.{records-few}
+use Rattle.records.proofs.Checks.{record-is}
 use Rattle.sheet.specs.Pass.{Sheet, Ran, Stepped, called, followed, stepped, runFrom, headed, gridded, begun, ranWith, plateOf, remembered, refusedAt, outcomeOf, pass}
 use Rattle.sheet.specs.Texts.{stepsOf, sheetIn}
-use Rattle.sheet.specs.Slices.{judged, laid}
-use Rattle.sheet.specs.Slices.{controls}
+use Rattle.sheet.specs.Slices.{afterCheck, laid, controls}
 
 -- ---- each W is a control
 steps-all : (rs : List Record) → widgets rs ≡ controls (stepsOf rs)
@@ -59,12 +60,6 @@ heading-few s = go (headingFits s) (hasGrid s) (gridFits (rest s))
     go true false c = omega arith
     go false b c = omega arith
 
-records-few : (left : ℕ) (s : List ℕ) → length (recordsFrom left s) ≤ left
-unfolding recordsFrom
-records-few zero s = omega arith
-records-few (suc left) [] = omega arith
-records-few (suc left) (b ∷ s) = omega (arith, records-few left (rest (b ∷ s)))
-
 misplaced-few : (text : List ℕ) → misplaced text ≤ 515
 unfolding misplaced orElse
 misplaced-few text = go (eqb (headingFault text) 0)
@@ -73,17 +68,19 @@ misplaced-few text = go (eqb (headingFault text) 0)
     go true = omega (arith, few-records text, wrong-few (headingIn text .records + 1) (records text), records-few (stepsLeft text) (drop (headingIn text .next) text))
     go false = omega (arith, heading-few text)
 
-checked-few : (text : List ℕ) (room n at : ℕ) → checked text room ≡ Refused n at → at ≤ 600
-unfolding checked sized
-checked-few text room n at h = go (eqb (misplaced text) 0) (isEmpty (afterAll text)) (ltb room (8 * widgets (records text))) h
+fault-few : (text : List ℕ) (room : ℕ) → sheetFault text room .at ≤ 600
+unfolding sheetFault
+fault-few text room = go (eqb (misplaced text) 0) (isEmpty (afterAll text)) (ltb room (8 * widgets (records text)))
   where
-    go : (a b c : Bool)
-        → pick a (pick b (pick c (Refused number.noRoom 1) (Accepted (headingIn text .records + length (records text)) (widgets (records text)))) (Refused number.tooLong 513)) (Refused number.malformed (misplaced text)) ≡ Refused n at
-        → at ≤ 600
-    go true true true h = let e : 1 ≡ at = cc in omega (arith, e)
-    go true true false h = let o : _≡_ {A = ℕ} 0 1 = cc in absurd (omega arith)
-    go true false c h = let e : 513 ≡ at = cc in omega (arith, e)
-    go false b c h = let e : misplaced text ≡ at = cc in omega (arith, e, misplaced-few text)
+    go : (a b c : Bool) → cond {A = Fault} a (cond b (cond c (record { number = number.noRoom; at = 1 }) (record { number = 0; at = 0 })) (record { number = number.tooLong; at = 513 })) (record { number = number.malformed; at = misplaced text }) .at ≤ 600
+    go true true true = omega arith
+    go true true false = omega arith
+    go true false c = omega arith
+    go false b c = omega (arith, misplaced-few text)
+
+checked-few : (text : List ℕ) (room n at : ℕ) → checked text room ≡ Refused n at → at ≤ 600
+unfolding checkedRecord
+checked-few text room n at e = let z : sheetFault text room .at ≡ at = sym (record-is text room) ∙ ap checkedRecord e in omega (arith, z, fault-few text room)
 
 steps-few : (rs : List Record) → length (stepsOf rs) ≤ length rs
 unfolding stepsOf
@@ -128,9 +125,9 @@ pass-few k s known m sizing = outcome-few (s .heading .«has_grid») m _ _ (foll
     go false = omega (arith, run-few k (s .heading .spacing) (s .heading .records + 1) p (s .steps))
 
 pub laid-few : (text : List ℕ) (known : Bool) (m : Memory) (sizing : Bool) (out : List ℤ) → laid text known m sizing out .outcome .at ≤ 600
-unfolding laid judged
+unfolding laid afterCheck
 laid-few text known m sizing out = go (checked text (length out)) refl
   where
-    go : (c : Checked) → checked text (length out) ≡ c → judged c text known m sizing out .outcome .at ≤ 600
+    go : (c : Checked) → checked text (length out) ≡ c → afterCheck c text known m sizing out .outcome .at ≤ 600
     go (Refused n at) e = checked-few text (length out) n at e
     go (Accepted r w) e = omega (arith, pass-few 5 (sheetIn text) known m sizing, steps-few (records text), records-few (stepsLeft text) (drop (headingIn text .next) text), few-records text)

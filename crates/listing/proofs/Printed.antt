@@ -16,41 +16,40 @@ use Rattle.text.specs.Lines.{line}
 use Rattle.records.specs.Headings.{hasGrid, headingIn}
 use Rattle.records.specs.Sheets.{records, checked}
 use Rattle.records.proofs.Prefixes.{few-records}
+use Rattle.records.proofs.Checks.{clear, some-number}
 use Rattle.records.specs.declared.Checked.{Checked}
 use Rattle.records.specs.declared.Checked.the-variants as checked-of
 use Rattle.sheet.specs.Pass.{Outcome, pass}
 use Rattle.sheet.specs.Passes.{passes}
 use Rattle.sheet.specs.Ticks.{inTicks}
 use Rattle.sheet.specs.Texts.{sheetIn}
-use Rattle.sheet.specs.Slices.{edges, laidOf, judged, laid}
-use Rattle.sheet.specs.Slices.{Called}
+use Rattle.sheet.specs.Slices.{edges, laidOf, laidNumber, afterCheck, laid, Called}
 use Rattle.sheet.specs.declared.Laid.{Laid}
 use Rattle.sheet.specs.declared.Laid.the-variants.{Accepted, Refused}
 use Rattle.sheet.specs.declared.Passed.{Passed}
 use Rattle.sheet.proofs.Slices as sheet-slices
-use Rattle.sheet.proofs.Slices.{room-there, clear}
 use Rattle.pass_laws.proofs.TextTicks.{text-whole}
 use Rattle.pass_laws.proofs.WholeEdges.{whole-pass}
 use Rattle.sheet.proofs.WalkedPasses.{no-such}
-use Rattle.sheet.proofs.Shown.{Shown, shown, no-number, some-number, pass-all}
+use Rattle.sheet.proofs.Shown.{Shown, shown, no-number, pass-all}
 use Rattle.listing.specs.Lists.{printed, widgetLines, entryLines, memoryLines, acceptedLines, refusalLine, outcomeLines, answered, listOf, listIn}
-use Rattle.listing.specs.Implementation.Putting.{Put, putAccepted, WholeMemory, isAccepted, printable, Printable, putPassed, numberOf}
+use Rattle.listing.specs.Implementation.ListWriter.{Put, putAccepted, WholeMemory, isAccepted, printable, Printable, putPassed}
 use Rattle.listing.proofs.Puts.{Within}
 use Rattle.listing.proofs.Written as written
 use Rattle.listing.proofs.Written.{after}
 use Rattle.listing.proofs.Memories.{empty-whole, first-whole, second-whole, plain-memory}
 use Rattle.listing.proofs.Places.{all-controls, grid-there, laid-few}
 
--- the lines of one pass's outcome
-abbrev pub told : Checked → List ℕ → Outcome → List ℕ
-told (checked-of.Refused n at) text o = refusalLine n at
-told (checked-of.Accepted r w) text o = outcomeLines (headingIn text) (records text) o
+-- the list by what the check answered: its refusal, or the lines of one pass's outcome
+abbrev pub listByCheck : Checked → List ℕ → Outcome → List ℕ
+listByCheck (checked-of.Refused n at) text o = refusalLine n at
+listByCheck (checked-of.Accepted r w) text o = outcomeLines (headingIn text) (records text) o
 
-list-told : (text : List ℕ) → told (checked text 4096) text (printed (sheetIn text)) ≡ listOf text
+list-by-check : (text : List ℕ) → listByCheck (checked text 4096) text (printed (sheetIn text)) ≡ listOf text
 unfolding listOf answered
-list-told text = go (checked text 4096)
+list-by-check text = go (checked text 4096)
   where
-    go : (c : Checked) → told c text (printed (sheetIn text)) ≡ answered c text
+    go : (c : Checked) → listByCheck c text (printed (sheetIn text)) ≡ answered c text
     go (checked-of.Refused n at) = refl
     go (checked-of.Accepted r w) = refl
 
@@ -111,7 +110,7 @@ module _ (text : List ℕ) (known : Bool) (m : Memory) (sizing : Bool) (out : Li
           let a = all-controls text in
           let b = pass-all 5 (sheetIn text) known m sizing (s .number) in
           let d = sheet-slices.pass-few 5 (sheetIn text) known m sizing in
-          let t = room-there text 4096 r w e in
+          let t = v .fits in
           let i = whole-pass 5 (omega arith) (sheetIn text) (text-whole text) known m sizing in
           rw (s .plate, s .memory)
           (written.put-accepted text exit (o .plate) (o .memory) P (o .cells)
@@ -119,12 +118,12 @@ module _ (text : List ℕ) (known : Bool) (m : Memory) (sizing : Bool) (out : Li
           (i .plate) (f (s .number)) (omega (arith, start, room)) (omega (arith, a, d, t)))
 
       -- 1 to 3, or the pass's own outcome
-      by-check : (k : Checked) → checked text 4096 ≡ k → laid text known m sizing out .outcome ≡ judged k text known m sizing out .outcome
+      by-check : (k : Checked) → checked text 4096 ≡ k → laid text known m sizing out .outcome ≡ afterCheck k text known m sizing out .outcome
       unfolding laid
-      by-check k e = ap (λ (x : Checked). judged x text known m sizing out .outcome) (ap (λ (n : ℕ). checked text n) full ∙ e)
+      by-check k e = ap (λ (x : Checked). afterCheck x text known m sizing out .outcome) (ap (λ (n : ℕ). checked text n) full ∙ e)
 
-      refused-line : (n at : ℕ) → 0 < n → p .laid ≡ laidOf n at → numberOf (p .laid) < 256 → putPassed (p .laid) text exit p P ≡ after P (refusalLine n at)
-      unfolding putPassed numberOf
+      refused-line : (n at : ℕ) → 0 < n → p .laid ≡ laidOf n at → laidNumber (p .laid) < 256 → putPassed (p .laid) text exit p P ≡ after P (refusalLine n at)
+      unfolding putPassed laidNumber
       refused-line n at h e few =
           let l = e ∙ said-refused n at h in
           rw l (written.put-refusal n at P (rw l at few) (refused-at n at l) (omega (arith, start, room)))
@@ -137,32 +136,32 @@ module _ (text : List ℕ) (known : Bool) (m : Memory) (sizing : Bool) (out : Li
           go true e = refl
           go false e = ap (λ (x : Memory). memoryLines x) (plain-memory 5 (sheetIn text) known m sizing e ∙ g e) ∙ no-entries
 
-      module _ (g : sheetIn text .heading .«has_grid» ≡ false → m ≡ emptyMemory) (few : numberOf (p .laid) < 256) where
-        abbrev Told : List ℕ → Type 0
-        Told l = putPassed (p .laid) text exit p P ≡ after P l
+      module _ (g : sheetIn text .heading .«has_grid» ≡ false → m ≡ emptyMemory) (few : laidNumber (p .laid) < 256) where
+        abbrev Puts : List ℕ → Type 0
+        Puts l = putPassed (p .laid) text exit p P ≡ after P l
 
-        told-accepted : (r w : ℕ) → checked text 4096 ≡ checked-of.Accepted r w → o .number ≡ 0 → p .laid ≡ Accepted → Told (outcomeLines (headingIn text) (records text) o)
+        puts-accepted : (r w : ℕ) → checked text 4096 ≡ checked-of.Accepted r w → o .number ≡ 0 → p .laid ≡ Accepted → Puts (outcomeLines (headingIn text) (records text) o)
         unfolding putPassed outcomeLines acceptedLines
-        told-accepted r w e z l =
+        puts-accepted r w e z l =
             rw (l, eq-eqb (o .number) 0 z)
             (whole-list r w e (shown text known m sizing out p exit c l)
             ∙ ap (λ (x : List ℕ). after P (widgetLines (headingIn text .records + 1) (records text) (o .cells) ++ (line 80 (edges (inTicks 5 (o .plate))) ++ x))) (memory-lines g))
 
-        told-refused : (n : ℕ) → o .number ≡ suc n → p .laid ≡ laidOf (o .number) (o .at) → Told (outcomeLines (headingIn text) (records text) o)
+        puts-refused : (n : ℕ) → o .number ≡ suc n → p .laid ≡ laidOf (o .number) (o .at) → Puts (outcomeLines (headingIn text) (records text) o)
         unfolding outcomeLines
-        told-refused n z l = rw (ne-eqb (o .number) 0 (λ (e : o .number ≡ 0). omega (arith, e, z))) (refused-line (o .number) (o .at) (omega (arith, z)) l few)
+        puts-refused n z l = rw (ne-eqb (o .number) 0 (λ (e : o .number ≡ 0). omega (arith, e, z))) (refused-line (o .number) (o .at) (omega (arith, z)) l few)
 
-        told-by : (k : Checked) → checked text 4096 ≡ k → p .laid ≡ laidOf (judged k text known m sizing out .outcome .number) (judged k text known m sizing out .outcome .at) → Told (told k text o)
-        unfolding judged
-        told-by (checked-of.Refused n at) e l = refused-line n at (some-number text 4096 n at e) l few
-        told-by (checked-of.Accepted r w) e l = on (o .number) refl
+        puts-by-check : (k : Checked) → checked text 4096 ≡ k → p .laid ≡ laidOf (afterCheck k text known m sizing out .outcome .number) (afterCheck k text known m sizing out .outcome .at) → Puts (listByCheck k text o)
+        unfolding afterCheck
+        puts-by-check (checked-of.Refused n at) e l = refused-line n at (some-number text 4096 n at e) l few
+        puts-by-check (checked-of.Accepted r w) e l = on (o .number) refl
           where
-            on : (n : ℕ) → o .number ≡ n → Told (outcomeLines (headingIn text) (records text) o)
-            on zero z = told-accepted r w e z (l ∙ said-accepted (o .number) (o .at) z)
-            on (suc n) z = told-refused n z l
+            on : (n : ℕ) → o .number ≡ n → Puts (outcomeLines (headingIn text) (records text) o)
+            on zero z = puts-accepted r w e z (l ∙ said-accepted (o .number) (o .at) z)
+            on (suc n) z = puts-refused n z l
 
-        pub told-call : Told (told (checked text 4096) text o)
-        told-call = told-by (checked text 4096) refl (laid-is ∙ ap (λ (x : Outcome). laidOf (x .number) (x .at)) (by-check (checked text 4096) refl))
+        pub puts-call : Puts (listByCheck (checked text 4096) text o)
+        puts-call = puts-by-check (checked text 4096) refl (laid-is ∙ ap (λ (x : Outcome). laidOf (x .number) (x .at)) (by-check (checked text 4096) refl))
 
 -- ---- the program's one pass, or two
 module _ (text : List ℕ) (out between : List ℤ) (p : Passed) (full : length out ≡ 4096) (c : Called text false emptyMemory true out p between) where
@@ -176,14 +175,14 @@ module _ (text : List ℕ) (out between : List ℤ) (p : Passed) (full : length 
   unfolding passes
   first-prints = can-print text false emptyMemory true out p between c (memory-first (sheetIn text .heading .«has_grid») refl)
 
-  laid-by : (k : Checked) → checked text 4096 ≡ k → p .laid ≡ laidOf (judged k text false emptyMemory true out .outcome .number) (judged k text false emptyMemory true out .outcome .at)
+  laid-by : (k : Checked) → checked text 4096 ≡ k → p .laid ≡ laidOf (afterCheck k text false emptyMemory true out .outcome .number) (afterCheck k text false emptyMemory true out .outcome .at)
   unfolding laid
   laid-by k e =
       laid-is text false emptyMemory true out p between c
-      ∙ ap (λ (x : Checked). laidOf (judged x text false emptyMemory true out .outcome .number) (judged x text false emptyMemory true out .outcome .at)) (ap (λ (n : ℕ). checked text n) full ∙ e)
+      ∙ ap (λ (x : Checked). laidOf (afterCheck x text false emptyMemory true out .outcome .number) (afterCheck x text false emptyMemory true out .outcome .at)) (ap (λ (n : ℕ). checked text n) full ∙ e)
 
   laid-first : (r w : ℕ) → checked text 4096 ≡ checked-of.Accepted r w → p .laid ≡ laidOf (passes 5 (sheetIn text) emptyMemory 0 .number) (passes 5 (sheetIn text) emptyMemory 0 .at)
-  unfolding judged passes
+  unfolding afterCheck passes
   laid-first r w e = laid-by (checked-of.Accepted r w) e
 
   -- whether the code goes on is whether the rule does
@@ -191,19 +190,19 @@ module _ (text : List ℕ) (out between : List ℤ) (p : Passed) (full : length 
   goes-on r w e = rw (laid-first r w e, accepted-is (passes 5 (sheetIn text) emptyMemory 0 .number) (passes 5 (sheetIn text) emptyMemory 0 .at), grid-there text)
 
   which : (b : Bool) → isAccepted (p .laid) && hasGrid text ≡ b → (k : Checked) → checked text 4096 ≡ k
-      → told k text (cond b (passes 5 (sheetIn text) emptyMemory 1) (passes 5 (sheetIn text) emptyMemory 0)) ≡ told k text (printed (sheetIn text))
+      → listByCheck k text (cond b (passes 5 (sheetIn text) emptyMemory 1) (passes 5 (sheetIn text) emptyMemory 0)) ≡ listByCheck k text (printed (sheetIn text))
   unfolding printed
   which b h (checked-of.Refused n at) e = refl
   which b h (checked-of.Accepted r w) e =
       ap (λ (x : Bool). outcomeLines (headingIn text) (records text) (cond x (passes 5 (sheetIn text) emptyMemory 1) (passes 5 (sheetIn text) emptyMemory 0))) (sym h ∙ goes-on r w e)
 
-  which-list : (b : Bool) → isAccepted (p .laid) && hasGrid text ≡ b → told (checked text 4096) text (cond b (passes 5 (sheetIn text) emptyMemory 1) (passes 5 (sheetIn text) emptyMemory 0)) ≡ listOf text
-  which-list b h = which b h (checked text 4096) refl ∙ list-told text
+  which-list : (b : Bool) → isAccepted (p .laid) && hasGrid text ≡ b → listByCheck (checked text 4096) text (cond b (passes 5 (sheetIn text) emptyMemory 1) (passes 5 (sheetIn text) emptyMemory 0)) ≡ listOf text
+  which-list b h = which b h (checked text 4096) refl ∙ list-by-check text
 
-  pub first-list : (P : Put) → P .at ≡ 0 → length (P .out) ≡ 40802 → isAccepted (p .laid) && hasGrid text ≡ false → numberOf (p .laid) < 256 → putPassed (p .laid) text between p P ≡ after P (listOf text)
+  pub first-list : (P : Put) → P .at ≡ 0 → length (P .out) ≡ 40802 → isAccepted (p .laid) && hasGrid text ≡ false → laidNumber (p .laid) < 256 → putPassed (p .laid) text between p P ≡ after P (listOf text)
   unfolding passes
   first-list P start room h few =
-      told-call text false emptyMemory true out p between c (memory-first (sheetIn text .heading .«has_grid») refl) full P start room (λ (e : sheetIn text .heading .«has_grid» ≡ false). refl) few
+      puts-call text false emptyMemory true out p between c (memory-first (sheetIn text .heading .«has_grid») refl) full P start room (λ (e : sheetIn text .heading .«has_grid» ≡ false). refl) few
       ∙ ap (λ (l : List ℕ). after P l) (which-list false h)
 
   -- a second pass, over the same slice
@@ -218,7 +217,7 @@ module _ (text : List ℕ) (out between : List ℤ) (p : Passed) (full : length 
   accepted-laid (Refused n at) b h = no-such h
 
   again : isAccepted (p .laid) && hasGrid text ≡ true → Again
-  unfolding passes judged
+  unfolding passes afterCheck
   again h = go (checked text 4096) refl
     where
       l : p .laid ≡ Accepted
@@ -242,10 +241,10 @@ module _ (text : List ℕ) (out between : List ℤ) (p : Passed) (full : length 
     unfolding passes
     second-prints = can-print text true (passes 5 (sheetIn text) emptyMemory 0 .memory) false between q exit with-first memory-second
 
-    pub second-list : (P : Put) → P .at ≡ 0 → length (P .out) ≡ 40802 → numberOf (q .laid) < 256 → putPassed (q .laid) text exit q P ≡ after P (listOf text)
+    pub second-list : (P : Put) → P .at ≡ 0 → length (P .out) ≡ 40802 → laidNumber (q .laid) < 256 → putPassed (q .laid) text exit q P ≡ after P (listOf text)
     unfolding passes
     second-list P start room few =
-        told-call text true (passes 5 (sheetIn text) emptyMemory 0 .memory) false between q exit with-first memory-second kept P start room (λ (e : sheetIn text .heading .«has_grid» ≡ false). no-such (sym e ∙ again h .grid)) few
+        puts-call text true (passes 5 (sheetIn text) emptyMemory 0 .memory) false between q exit with-first memory-second kept P start room (λ (e : sheetIn text .heading .«has_grid» ≡ false). no-such (sym e ∙ again h .grid)) few
         ∙ ap (λ (l : List ℕ). after P l) (which-list true h)
 
 -- ---- the length, and the slice

@@ -26,7 +26,7 @@ use Rattle.sheet.specs.declared.Laid.{Laid}
 use Rattle.sheet.specs.declared.Laid.the-variants.{Accepted, Refused}
 use Rattle.sheet.specs.declared.Passed.{Passed}
 use Rattle.sheet.proofs.WalkedPasses.{no-such}
-use Rattle.listing.specs.Implementation.Putting.{Put, bytes, putLine, mark, placesOf, putWidget, putWidgets, putEntries, putMemory, putAccepted, putPassed, Whole, none, more}
+use Rattle.listing.specs.Implementation.ListWriter.{Put, bytes, putLine, mark, placesOf, putWidget, putWidgets, putEntries, putMemory, putAccepted, putPassed, Whole, none, more}
 
 -- ---- put_line
 module _ (out : List ℕ) (at letter : ℕ) (zs : List ℤ) (o : List ℕ) where

@@ -12,22 +12,23 @@ use lib.Ieee.{Float}
 use borrow.Author.Tests.{eqb-true, ne-eqb}
 use Rattle.grid.specs.Memories.{emptyMemory}
 use Rattle.grid.specs.declared.Memory.{Memory}
-use Rattle.records.specs.Headings.{hasGrid, headingIn}
+use Rattle.records.specs.Headings.{hasGrid}
 use Rattle.records.specs.Sheets.{checked}
+use Rattle.records.specs.Implementation.SizeCache.{cachedBy}
+use Rattle.records.proofs.Checks.{some-number}
 use Rattle.records.specs.declared.Checked.{Checked}
 use Rattle.records.specs.declared.Checked.the-variants as checked-of
 use Rattle.sheet.specs.Pass.{Outcome, refusedAt, pass}
 use Rattle.sheet.specs.Passes.{passes}
 use Rattle.sheet.specs.Texts.{sheetIn}
-use Rattle.sheet.specs.Slices.{LaidOut, laidOf, passedOf, judged, laid}
-use Rattle.sheet.specs.Implementation.Walks.{Room, Known}
-use Rattle.sheet.specs.Slices.{Called}
+use Rattle.sheet.specs.Slices.{LaidOut, laidOf, laidNumber, passedOf, afterCheck, laid, Returns, Called}
+use Rattle.sheet.specs.Implementation.Walks.{Known}
 use Rattle.sheet.specs.declared.Passed.{Passed}
 use Rattle.sheet.proofs.WalkedPasses.{no-such}
-use Rattle.sheet.proofs.Slices.{laid-length}
-use Rattle.sheet.proofs.Shown.{some-number}
+use Rattle.sheet.proofs.Returned.{called}
+use Rattle.sheet.proofs.Slices.{room-after, laid-length}
 use Rattle.listing.specs.Lists.{printed, settledFrom, settled, listOf}
-use Rattle.listing.specs.Implementation.Putting.{Put, isAccepted, Printable, putPassed, numberOf}
+use Rattle.listing.specs.Implementation.ListWriter.{Put, isAccepted, Printable, putPassed}
 use Rattle.listing.proofs.Written.{after}
 use Rattle.listing.proofs.Places.{grid-there}
 use Rattle.listing.proofs.Printed.{accepted-is, first-prints, first-list, second-prints, second-list}
@@ -38,10 +39,10 @@ module _ (text : List ℕ) (out : List ℤ) where
 
   -- an accepted pass is over a text without a fault
   grid-known : first .outcome .number ≡ 0 → hasGrid text ≡ sheetIn text .heading .«has_grid»
-  unfolding laid judged
+  unfolding laid afterCheck
   grid-known z = go (checked text (length out)) refl z
     where
-      go : (c : Checked) → checked text (length out) ≡ c → judged c text false emptyMemory true out .outcome .number ≡ 0 → hasGrid text ≡ sheetIn text .heading .«has_grid»
+      go : (c : Checked) → checked text (length out) ≡ c → afterCheck c text false emptyMemory true out .outcome .number ≡ 0 → hasGrid text ≡ sheetIn text .heading .«has_grid»
       go (checked-of.Refused n at) e h = absurd (omega (arith, h, some-number text (length out) n at e))
       go (checked-of.Accepted r w) e h = grid-there text
 
@@ -71,29 +72,24 @@ module _ (text : List ℕ) (out : List ℤ) where
         go false e f = no-such f
 
     -- a second pass needs no second check
-    pub known-again : (sizes : List Float) → length between ≡ length out → isAccepted (p .laid) && hasGrid text ≡ true
-        → ((r w : ℕ) → checked text (length out) ≡ checked-of.Accepted r w → Room (headingIn text) text (length out) sizes) → Known text (length between) sizes
-    unfolding laid judged
-    known-again sizes kept h f = go (checked text (length out)) refl (accepted-first h)
+    pub known-again : (sizes : List Float) → length sizes ≡ 1026 → length between ≡ length out → isAccepted (p .laid) && hasGrid text ≡ true → Known text (length between) (cachedBy text sizes)
+    unfolding laid afterCheck
+    known-again sizes l kept h = rw kept (go (checked text (length out)) refl (accepted-first h))
       where
-        go : (k : Checked) → checked text (length out) ≡ k → judged k text false emptyMemory true out .outcome .number ≡ 0 → Known text (length between) sizes
+        go : (c : Checked) → checked text (length out) ≡ c → afterCheck c text false emptyMemory true out .outcome .number ≡ 0 → Known text (length out) (cachedBy text sizes)
         go (checked-of.Refused n at) e z = absurd (omega (arith, z, some-number text (length out) n at e))
-        go (checked-of.Accepted r w) e z = record { all = r; widgets = w; accepted = ap (λ (n : ℕ). checked text n) kept ∙ e; ready = subst (λ (n : ℕ). Room (headingIn text) text n sizes) (sym kept) (f r w e) }
+        go (checked-of.Accepted r w) e z = record { all = r; widgets = w; accepted = e; ready = room-after text (length out) r w sizes l e }
 
-    pub once : isAccepted (p .laid) && hasGrid text ≡ false → (p ≡ passedOf (settled text out .outcome)) × (between ≡ settled text out .slice)
-    once h =
-        let e = of-first false h in
-        (c .answer ∙ ap (λ (l : LaidOut). passedOf (l .outcome)) (sym e), c .slice ∙ ap (λ (l : LaidOut). l .slice) (sym e))
+    pub once : isAccepted (p .laid) && hasGrid text ≡ false → Returns (settled text out) p between
+    once h = subst (λ (l : LaidOut). Returns l p between) (sym (of-first false h)) c
 
-    pub again : (q : Passed) (exit : List ℤ) → Called text true (p .memory) false between q exit → isAccepted (p .laid) && hasGrid text ≡ true
-        → (q ≡ passedOf (settled text out .outcome)) × (exit ≡ settled text out .slice)
+    pub again : (q : Passed) (exit : List ℤ) → Called text true (p .memory) false between q exit → isAccepted (p .laid) && hasGrid text ≡ true → Returns (settled text out) q exit
     again q exit d h =
-        let e = of-first true h in
         let f : laid text true (p .memory) false between ≡ laid text true (first .outcome .memory) false (first .slice) = ap (λ (x : Passed). laid text true (x .memory) false between) (c .answer) ∙ ap (λ (x : List ℤ). laid text true (first .outcome .memory) false x) (c .slice) in
-        (d .answer ∙ ap (λ (l : LaidOut). passedOf (l .outcome)) (f ∙ sym e), d .slice ∙ ap (λ (l : LaidOut). l .slice) (f ∙ sym e))
+        subst (λ (l : LaidOut). Returns l q exit) (f ∙ sym (of-first true h)) d
 
 -- ---- the list
-module _ (text : List ℕ) (out exit : List ℤ) (p : Passed) (full : length out ≡ 4096) (a : p ≡ passedOf (settled text out .outcome)) (s : exit ≡ settled text out .slice) where
+module _ (text : List ℕ) (out exit : List ℤ) (p : Passed) (full : length out ≡ 4096) (a : Returns (settled text out) p exit) where
   abbrev between : List ℤ
   between = laid text false emptyMemory true out .slice
 
@@ -101,20 +97,16 @@ module _ (text : List ℕ) (out exit : List ℤ) (p : Passed) (full : length out
   f = passedOf (laid text false emptyMemory true out .outcome)
 
   c : Called text false emptyMemory true out f between
-  c = record { answer = refl; slice = refl }
+  c = called text false emptyMemory true out f between refl refl
 
   kept : length between ≡ 4096
   kept = laid-length text false emptyMemory true out ∙ full
 
   one : isAccepted (f .laid) && hasGrid text ≡ false → Called text false emptyMemory true out p exit
-  one h =
-      let e = by-code text out false h in
-      record { answer = a ∙ ap (λ (l : LaidOut). passedOf (l .outcome)) e; slice = s ∙ ap (λ (l : LaidOut). l .slice) e }
+  one h = subst (λ (l : LaidOut). Returns l p exit) (by-code text out false h) a
 
   two : isAccepted (f .laid) && hasGrid text ≡ true → Called text true (f .memory) false between p exit
-  two h =
-      let e = by-code text out true h in
-      record { answer = a ∙ ap (λ (l : LaidOut). passedOf (l .outcome)) e; slice = s ∙ ap (λ (l : LaidOut). l .slice) e }
+  two h = subst (λ (l : LaidOut). Returns l p exit) (by-code text out true h) a
 
   pub settled-prints : Printable p
   settled-prints = go (isAccepted (f .laid) && hasGrid text) refl
@@ -123,7 +115,7 @@ module _ (text : List ℕ) (out exit : List ℤ) (p : Passed) (full : length out
       go true h = second-prints text out between f full c exit p kept (two h) h
       go false h = first-prints text out exit p full (one h)
 
-  pub settled-list : (P : Put) → P .at ≡ 0 → length (P .out) ≡ 40802 → numberOf (p .laid) < 256 → putPassed (p .laid) text exit p P ≡ after P (listOf text)
+  pub settled-list : (P : Put) → P .at ≡ 0 → length (P .out) ≡ 40802 → laidNumber (p .laid) < 256 → putPassed (p .laid) text exit p P ≡ after P (listOf text)
   settled-list P start room few = go (isAccepted (f .laid) && hasGrid text) refl
     where
       go : (b : Bool) → isAccepted (f .laid) && hasGrid text ≡ b → putPassed (p .laid) text exit p P ≡ after P (listOf text)
@@ -133,7 +125,7 @@ module _ (text : List ℕ) (out exit : List ℤ) (p : Passed) (full : length out
 -- ---- what it gives, in the rule's words
 outcome-is : (text : List ℕ) (known : Bool) (m : Memory) (sizing : Bool) (out : List ℤ) (r w : ℕ) → checked text (length out) ≡ checked-of.Accepted r w
     → laid text known m sizing out .outcome ≡ pass 5 (sheetIn text) known m sizing
-unfolding laid judged
+unfolding laid afterCheck
 outcome-is text known m sizing out r w e = rw e
 
 -- a sheet that 1 to 3 do not turn back gives what is printed of it
@@ -162,5 +154,5 @@ settled-printed text out r w e = go (eqb (first text out .outcome .number) 0 && 
 -- after 1 to 3 the slice is as it was
 pub settled-untouched : (text : List ℕ) (out : List ℤ) (n at : ℕ) → checked text (length out) ≡ checked-of.Refused n at
     → settled text out ≡ record { outcome = refusedAt n at [] emptyMemory; slice = out }
-unfolding settled settledFrom laid judged
+unfolding settled settledFrom laid afterCheck
 settled-untouched text out n at e = rw (e, ne-eqb n 0 (λ (z : n ≡ 0). omega (arith, z, some-number text (length out) n at e)))

@@ -21,7 +21,7 @@ use Rattle.records.specs.Parts.{letter}
 use Rattle.records.specs.Records.{recordOf, rest}
 use Rattle.records.specs.Headings.{headingIn}
 use Rattle.records.specs.Sheets.{recordsFrom, stepsLeft, records, wrongFrom, widget, widgets}
-use Rattle.records.specs.Implementation.Keeping.{isStep}
+use Rattle.records.specs.Implementation.SizeCache.{isStep}
 use Rattle.records.specs.declared.Record.{Record}
 use Rattle.records.specs.declared.Record.the-variants as record-of
 use Rattle.sheet.specs.Pass.{Cell}
@@ -29,8 +29,8 @@ use Rattle.pass_laws.specs.WholeCells.{WholeCells, more}
 use Rattle.sheet.specs.Ticks.{ticks, inTicks}
 use Rattle.sheet.specs.Slices.{edges, eight, written}
 use Rattle.listing.specs.Lists.{widgetLines, entryLines, memoryLines, refusalLine}
-use Rattle.listing.specs.Implementation.Putting as putting
-use Rattle.listing.specs.Implementation.Putting.{Put, bytes, putLine, placesOf, mark, putWidget, putWidgets, putEntries, putMemory, putAccepted, Whole, WholeMemory}
+use Rattle.listing.specs.Implementation.ListWriter as putting
+use Rattle.listing.specs.Implementation.ListWriter.{Put, bytes, putLine, placesOf, mark, putWidget, putWidgets, putEntries, putMemory, putAccepted, Whole, WholeMemory}
 use Rattle.listing.proofs.Letters.{mark-is}
 use Rattle.listing.proofs.Texts.{edges-texts, none-left, widget-texts, entry-texts, refusal-texts}
 

@@ -1,2 +1,2 @@
 -- How the code writes a list, line after line. Not part of the specification.
-pub mod Putting
+pub mod ListWriter

@@ -18,7 +18,7 @@ ghost use Rattle.records.specs.Headings.{headingIn};
 ghost use Rattle.records.specs.Sheets.{stepsLeft};
 ghost use Rattle.sheet.specs.Ticks.{ticks, inTicks};
 ghost use Rattle.sheet.specs.Slices.{edges};
-ghost use Rattle.listing.specs.Implementation.Putting.{putLine, mark, putWidget, putWidgets, putEntries, putMemory, Whole, WholeMemory};
+ghost use Rattle.listing.specs.Implementation.ListWriter.{putLine, mark, putWidget, putWidgets, putEntries, putMemory, Whole, WholeMemory};
 
 fn put_line(out: &mut [u8], at: usize, letter: u8, numbers: &[i32]) -> usize
     ensures { λ r. ⌜ record { at = r; out = now (out .exit) } ≡ putLine letter (now (numbers .entry)) (record { at = at; out = now (out .entry) }) ⌝ }

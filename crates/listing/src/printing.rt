@@ -8,19 +8,19 @@ use crate::lines::put_widgets;
 use emath::Rect;
 use grid::Memory;
 use grid::memories::empty_memory;
-use records::KEPT;
+use records::CACHE_LEN;
 use records::headings::has_grid;
 use sheet::Laid;
 use sheet::Passed;
-use sheet::passing::pass_again;
-use sheet::passing::pass_keeping;
+use sheet::passing::pass_cached;
+use sheet::passing::pass_caching;
 ghost use mathlib.Core.Path.{_≡_};
 ghost use Prim.Native.Nat.{_≤_, _<_};
 ghost use Rattle.emath.specs.Steps.{tick};
 ghost use Rattle.region.specs.Steps.{WholeRect};
-ghost use Rattle.sheet.specs.Slices.{passedOf};
+ghost use Rattle.sheet.specs.Slices.{laidNumber, Returns};
 ghost use Rattle.listing.specs.Lists.{settled, listIn};
-ghost use Rattle.listing.specs.Implementation.Putting.{isAccepted, putAccepted, putPassed, WholeMemory, Printable, numberOf};
+ghost use Rattle.listing.specs.Implementation.ListWriter.{isAccepted, putAccepted, putPassed, WholeMemory, Printable};
 
 fn is_accepted(laid: Laid) -> bool
     ensures { λ b. ⌜ b ≡ isAccepted laid ⌝ }
@@ -44,7 +44,7 @@ fn put_accepted(out: &mut [u8], text: &[u8], cells: &[i32], plate: Rect, memory:
 // The lines of the pass that is printed.
 fn put_passed(out: &mut [u8], text: &[u8], cells: &[i32], p: Passed) -> usize
     requires { ⌜ Printable p ⌝ }
-    ensures { λ r. ⌜ (record { at = r; out = now (out .exit) } ≡ putPassed (p .laid) (now (text .entry)) (now (cells .entry)) p (record { at = 0; out = now (out .entry) })) × (numberOf (p .laid) < 256) ⌝ }
+    ensures { λ r. ⌜ (record { at = r; out = now (out .exit) } ≡ putPassed (p .laid) (now (text .entry)) (now (cells .entry)) p (record { at = 0; out = now (out .entry) })) × (laidNumber (p .laid) < 256) ⌝ }
 {
     let laid = p.laid;
     match laid {
@@ -58,15 +58,15 @@ fn put_passed(out: &mut [u8], text: &[u8], cells: &[i32], p: Passed) -> usize
 
 // One pass over the slice, or two with a grid, the second with the first's memory: what the last one gives.
 pub fn settle(text: &[u8], cells: &mut [i32]) -> Passed
-    ensures { λ p. ⌜ (p ≡ passedOf (settled (now (text .entry)) (now (cells .entry)) .outcome)) × (now (cells .exit) ≡ settled (now (text .entry)) (now (cells .entry)) .slice) ⌝ }
+    ensures { λ p. ⌜ Returns (settled (now (text .entry)) (now (cells .entry))) p (now (cells .exit)) ⌝ }
 {
-    let mut sizes: [f32; KEPT] = [0.0; KEPT];
+    let mut sizes: [f32; CACHE_LEN] = [0.0; CACHE_LEN];
     let none = empty_memory();
-    let first = pass_keeping(text, &mut sizes, false, none, true, cells);
+    let first = pass_caching(text, &mut sizes, false, none, true, cells);
     let laid = first.laid;
     if is_accepted(laid) & has_grid(text) {
         let memory = first.memory;
-        return pass_again(text, &sizes, true, memory, false, cells);
+        return pass_cached(text, &sizes, true, memory, false, cells);
     }
     first
 }

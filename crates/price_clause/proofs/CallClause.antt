@@ -16,15 +16,16 @@ use Rattle.grid.specs.declared.Memory.{Memory}
 use Rattle.records.specs.Sheets.{checked}
 use Rattle.records.specs.declared.Checked.{Checked}
 use Rattle.records.specs.declared.Checked.the-variants as checked-of
+use Rattle.records.proofs.Checks.{some-number}
 use Rattle.sheet.specs.declared.Laid.the-variants.{Accepted}
 use Rattle.sheet.specs.declared.Passed.{Passed}
 use Rattle.sheet.specs.Pass.{Cell, Outcome, pass}
 use Rattle.sheet.specs.Ticks.{ticks, inTicks}
 use Rattle.sheet.specs.Texts.{sheetIn}
-use Rattle.sheet.specs.Slices.{eight, written, passedOf, judged, laid, Called, controls}
+use Rattle.sheet.specs.Slices.{eight, written, passedOf, afterCheck, laid, Called, controls}
 use Rattle.sheet.proofs.Ticking.{ticks-are}
 use Rattle.sheet.proofs.Slices.{written-length, laid-length, slice-is}
-use Rattle.sheet.proofs.Shown.{Shown, shown, pass-all, no-number, some-number}
+use Rattle.sheet.proofs.Shown.{Shown, shown, pass-all, no-number}
 use Rattle.sheet.specs.Passes.{passes}
 use Rattle.price_clause.specs.Sheets.{FrameNoLess}
 use Rattle.pass_laws.specs.WholeCells.{WholeCells, more}
@@ -94,7 +95,7 @@ module _ (text : List ℕ) (m : Memory) where
   -- a text that is not turned back is laid out by the rule
   by-rule : (r w : ℕ) (n : ℕ) (known : Bool) (given : Memory) (sizing : Bool) (out exit : List ℤ) (p : Passed) → checked text (length out) ≡ checked-of.Accepted r w
       → Called text known given sizing out p exit → pass 5 (sheetIn text) known given sizing ≡ nth n → Nth n p out exit
-  unfolding laid judged
+  unfolding laid afterCheck
   by-rule r w n known given sizing out exit p k c e =
       let x : laid text known given sizing out .outcome ≡ pass 5 (sheetIn text) known given sizing = rw k in
       record {
@@ -141,20 +142,20 @@ module _ (text : List ℕ) (m : Memory) where
 -- ---- an accepted call is over a text that is not turned back
 module _ (text : List ℕ) (known : Bool) (m : Memory) (sizing : Bool) (out : List ℤ) (p : Passed) (exit : List ℤ) (c : Called text known m sizing out p exit) where
   not-turned-back : p .laid ≡ Accepted → (r : ℕ) × (w : ℕ) × (checked text (length out) ≡ checked-of.Accepted r w)
-  unfolding laid judged
+  unfolding laid afterCheck
   not-turned-back a = go (checked text (length out)) refl (no-number _ _ (ap (λ (x : Passed). x .laid) (sym (c .answer)) ∙ a))
     where
-      go : (k : Checked) → checked text (length out) ≡ k → judged k text known m sizing out .outcome .number ≡ 0 → (r : ℕ) × (w : ℕ) × (checked text (length out) ≡ checked-of.Accepted r w)
+      go : (k : Checked) → checked text (length out) ≡ k → afterCheck k text known m sizing out .outcome .number ≡ 0 → (r : ℕ) × (w : ℕ) × (checked text (length out) ≡ checked-of.Accepted r w)
       go (checked-of.Refused n at) e h = absurd (omega (arith, h, some-number text (length out) n at e))
       go (checked-of.Accepted r w) e h = (r, w, e)
 
   -- ---- whole ticks
   whole-written : (k : ℕ) → k < length (laid text known m sizing out .outcome .cells) → WrittenWhole (laid text known m sizing out .outcome .cells) exit k
-  unfolding laid judged
+  unfolding laid afterCheck
   whole-written k l = go (checked text (length out)) refl
     where
       go : (x : Checked) → checked text (length out) ≡ x → WrittenWhole (laid text known m sizing out .outcome .cells) exit k
-      go (checked-of.Refused n at) e = absurd (let z : k < length (judged (checked-of.Refused n at) text known m sizing out .outcome .cells) = rw e at l in omega arith)
+      go (checked-of.Refused n at) e = absurd (let z : k < length (afterCheck (checked-of.Refused n at) text known m sizing out .outcome .cells) = rw e at l in omega arith)
       go (checked-of.Accepted r w) e =
           let cs = pass 5 (sheetIn text) known m sizing .cells in
           let z : k < length cs = rw e at l in
@@ -162,10 +163,10 @@ module _ (text : List ℕ) (known : Bool) (m : Memory) (sizing : Bool) (out : Li
           rw (e, y) (written-whole cs _ (price-clause .whole (sheetIn text) (of-text text) known m sizing .0) k z)
 
   plate-whole : RectIsTicks (p .plate) (inTicks 5 (p .plate))
-  unfolding laid judged
+  unfolding laid afterCheck
   plate-whole = rect-is-ticks (subst (λ (q : Passed). WholeRect 5 (q .plate)) (sym (c .answer)) (go (checked text (length out))))
     where
-      go : (x : Checked) → WholeRect 5 (judged x text known m sizing out .outcome .plate)
+      go : (x : Checked) → WholeRect 5 (afterCheck x text known m sizing out .outcome .plate)
       go (checked-of.Refused n at) = zero-rect 5
       go (checked-of.Accepted r w) = price-clause .whole (sheetIn text) (of-text text) known m sizing .1
 

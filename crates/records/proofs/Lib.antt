@@ -4,4 +4,5 @@ pub mod Places
 pub mod HeadingFaults
 pub mod Reached
 pub mod Prefixes
-pub mod Keeping
+pub mod Checks
+pub mod SizeCache

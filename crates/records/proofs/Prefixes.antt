@@ -15,10 +15,9 @@ use Rattle.text.specs.Fields.{fieldAt}
 use Rattle.records.specs.Parts.{letter, ends, lengthIn, countIn}
 use Rattle.records.specs.Records.{pairFits, pairIn, layoutFits, layoutIn, rectIn, headingFits, maximaFit, maximaIn, optionsIn, gridFits, stepRecord, widgetRecord, singleRecord, recordOf, fieldCount, size, rest, nextAt}
 use Rattle.records.specs.Headings.{hasGrid, headingIn, headingFault}
-use Rattle.records.specs.Sheets.{recordsFrom, stepsLeft, records, after, afterAll, misplaced, pick, checked}
+use Rattle.records.specs.Sheets.{recordsFrom, stepsLeft, records, after, afterAll, misplaced, sheetFault, checked}
 use Rattle.records.specs.declared.Step.{Step}
 use Rattle.records.specs.declared.Record.{Record}
-use Rattle.records.specs.declared.Checked.the-variants.{Refused}
 use Rattle.records.proofs.Reached.{not-empty}
 
 drop-take : (n m : ℕ) (l : List ℕ) → drop n (take m l) ≡ take (m - n) (drop n l)
@@ -219,11 +218,15 @@ next-few s = go (hasGrid s)
     go false = omega (arith, near s 0)
 
 -- ---- 1 to 3
-some : (s : List ℕ) (room : ℕ) → 50176 < length s → checked s room ≡ pick (eqb (misplaced s) 0) (Refused number.tooLong 513) (Refused number.malformed (misplaced s))
-unfolding checked
+some : (s : List ℕ) (room : ℕ) → 50176 < length s → sheetFault s room ≡ cond (eqb (misplaced s) 0) (record { number = number.tooLong; at = 513 }) (record { number = number.malformed; at = misplaced s })
+unfolding sheetFault
 some s room h =
     let f = few-records s in
     rw (not-empty (afterAll s) (left-after (stepsLeft s) (drop (headingIn s .next) s) (omega (arith, next-few s, length-drop (headingIn s .next) s))))
+
+same-check : (s t : List ℕ) (room : ℕ) → sheetFault s room ≡ sheetFault t room → headingIn s ≡ headingIn t → records s ≡ records t → checked s room ≡ checked t room
+unfolding checked
+same-check s t room f g r = rw (f, r, g)
 
 pub record Prefix (s : List ℕ) (room : ℕ) : Type 0 where
   pub check : checked (take 50177 s) room ≡ checked s room
@@ -238,8 +241,9 @@ long-text s room h =
     let d : drop (headingIn s .next) (take 50177 s) ≡ take (50177 - headingIn s .next) (drop (headingIn s .next) s) = drop-take (headingIn s .next) 50177 s in
     let r : records (take 50177 s) ≡ records s = rw (g, d) (same-records (stepsLeft s) (50177 - headingIn s .next) (drop (headingIn s .next) s) (omega (arith, next-few s))) in
     let l : length (take 50177 s) ≡ 50177 = length-take-le 50177 s h in
+    let q : sheetFault (take 50177 s) room ≡ sheetFault s room = some (take 50177 s) room (omega (arith, l)) ∙ rw (fault-same 50177 s (omega arith) h, r, g) (sym (some s room (omega arith))) in
     record {
-      check = some (take 50177 s) room (omega (arith, l)) ∙ rw (fault-same 50177 s (omega arith) h, r, g) (sym (some s room (omega arith)));
+      check = same-check (take 50177 s) s room q g r;
       heading = g;
       steps = r;
     }

@@ -1,12 +1,13 @@
 -- The check of a whole sheet, record by record: what is known where k records have been read, w of them W, and what each return answers.
 -- Assumes nothing.
-use Prim.Native.Nat.{ℕ, zero, suc, _+_, _-_, _≤_, _<_}
+use Prim.Native.Nat.{ℕ, zero, suc, _+_, _-_, _*_, _≤_, _<_}
 use mathlib.Core.Path.{_≡_, refl, ap, sym, _∙_}
 use mathlib.Core.List.{List, [], _∷_}
-use mathlib.Core.Bool.{Bool, true, false, true≢false}
+use mathlib.Core.Bool.{Bool, true, false, cond, true≢false}
 use native.Mathlib.Omega.{arith}
 use native.Mathlib.Nat.{zero-add}
 use borrow.Author.Tests.{ne-eqb}
+use lib.Dec.{eqb, ltb}
 use lib.ListN.{length, drop, length-drop, drop-of-length-le}
 use lib.Seq.{drop-nil}
 use Rattle.emath.specs.Numbers as number
@@ -15,11 +16,11 @@ use Rattle.records.specs.declared.Record.{Record}
 use Rattle.records.specs.declared.Record.the-variants.{Step as Steps, Wrong}
 use Rattle.records.specs.declared.Heading.{Heading}
 use Rattle.records.specs.declared.Checked.{Checked}
-use Rattle.records.specs.declared.Checked.the-variants.{Refused}
+use Rattle.records.specs.declared.Checked.the-variants.{Accepted, Refused}
 use Rattle.records.specs.Records.{recordOf, recordAt, size, rest, nextAt}
 use Rattle.records.specs.Headings.{headingIn, headingFault}
-use Rattle.records.specs.Sheets.{recordsFrom, after, stepsLeft, records, afterAll, wrongFrom, misplaced, widget, widgets, isEmpty, pick, sized, checked}
-use Rattle.records.specs.Implementation.Keeping.{isStep}
+use Rattle.records.specs.Sheets.{recordsFrom, after, stepsLeft, records, afterAll, wrongFrom, misplaced, widget, widgets, isEmpty, Fault, sheetFault, checked}
+use Rattle.records.specs.Implementation.SizeCache.{isStep}
 use Rattle.records.proofs.Places.{next-is-rest}
 
 -- the rest of the text, from `at`, has the sheet's first fault after its heading, and its W and records are those that are missing
@@ -50,6 +51,12 @@ after-first : (left : ℕ) (u : List ℕ) → 0 < left → after left u ≡ afte
 unfolding after
 after-first zero u h = absurd (omega arith)
 after-first (suc left) u h = let e : suc left - 1 ≡ left = omega arith in rw e
+
+pub records-few : (left : ℕ) (s : List ℕ) → length (recordsFrom left s) ≤ left
+unfolding recordsFrom
+records-few zero s = omega arith
+records-few (suc left) [] = omega arith
+records-few (suc left) (b ∷ s) = omega (arith, records-few left (rest (b ∷ s)))
 
 -- the records from a place on, taken one by one
 pub records-step : (left : ℕ) (s : List ℕ) (at : ℕ) → 0 < left → at < length s → recordsFrom left (drop at s) ≡ recordAt s at ∷ recordsFrom (left - 1) (drop (nextAt s at) s)
@@ -93,7 +100,7 @@ unfolding recordsFrom
 none-left zero = refl
 none-left (suc left) = refl
 
-no-more : (left : ℕ) (u : List ℕ) → left ≤ 0 → recordsFrom left u ≡ []
+pub no-more : (left : ℕ) (u : List ℕ) → left ≤ 0 → recordsFrom left u ≡ []
 unfolding recordsFrom
 no-more zero u h = refl
 no-more (suc left) u h = absurd (omega arith)
@@ -117,7 +124,7 @@ unfolding widgets
 no-widgets = refl
 
 module _ (s : List ℕ) (at k w left : ℕ) (h : Reached s at k w left) (none : recordsFrom left (drop at s) ≡ []) where
-  pub no-fault : 0 ≡ wrongFrom (headingIn s .records + 1) (records s)
+  no-fault : 0 ≡ wrongFrom (headingIn s .records + 1) (records s)
   no-fault = sym (none-wrong (k + 1)) ∙ ap (λ (rs : List Record). wrongFrom (k + 1) rs) (sym none) ∙ h .fault
 
   widgets-are : w ≡ widgets (records s)
@@ -127,20 +134,28 @@ module _ (s : List ℕ) (at k w left : ℕ) (h : Reached s at k w left) (none : 
   records-are = omega (arith, ap (λ (rs : List Record). k + length rs) none, h .all-records)
 
 -- ---- what is answered
+abbrev tests : Bool → Bool → Fault
+tests all short = cond all (cond short (record { number = number.noRoom; at = 1 }) (record { number = 0; at = 0 })) (record { number = number.tooLong; at = 513 })
+
+by-tests : (all short : Bool) (k w : ℕ) → cond all (cond short (Refused number.noRoom 1) (Accepted k w)) (Refused number.tooLong 513) ≡ cond (eqb (tests all short .number) 0) (Accepted k w) (Refused (tests all short .number) (tests all short .at))
+by-tests true true k w = refl
+by-tests true false k w = refl
+by-tests false short k w = refl
+
 module _ (s : List ℕ) (room : ℕ) where
   pub on-heading : (f : ℕ) → f ≡ headingFault s → (f ≡ 0 → ⊥) → Refused number.malformed f ≡ checked s room
-  unfolding checked misplaced orElse
+  unfolding checked sheetFault misplaced orElse
   on-heading f e h = rw (← e, ne-eqb f 0 h, ne-eqb f 0 h)
 
   module _ (well : headingFault s ≡ 0) where
     at-fault : (m : ℕ) → 0 < m → m ≡ wrongFrom (headingIn s .records + 1) (records s) → Refused number.malformed m ≡ checked s room
-    unfolding checked misplaced orElse
+    unfolding checked sheetFault misplaced orElse
     at-fault m h e = rw (well, ← e, ne-eqb m 0 (λ z. omega arith))
 
     answer : (b : Bool) (v : Checked) → 0 ≡ wrongFrom (headingIn s .records + 1) (records s) → b ≡ isEmpty (afterAll s)
-        → v ≡ sized (headingIn s .records + length (records s)) (widgets (records s)) room → pick b v (Refused number.tooLong 513) ≡ checked s room
-    unfolding checked misplaced orElse
-    answer b v em eb ev = rw (well, ← em, eb, ev)
+        → v ≡ cond (ltb room (8 * widgets (records s))) (Refused number.noRoom 1) (Accepted (headingIn s .records + length (records s)) (widgets (records s))) → cond b v (Refused number.tooLong 513) ≡ checked s room
+    unfolding checked sheetFault misplaced orElse
+    answer b v em eb ev = rw (well, ← em, eb, ev) (by-tests (isEmpty (afterAll s)) (ltb room (8 * widgets (records s))) _ _)
 
     module _ (at k w left : ℕ) (h : Reached s at k w left) where
       pub misplaced-answer : 0 < left → at < length s → (r : Record) → r ≡ recordAt s at → (p : Bool) → p ≡ isStep r → p ≡ false → Refused number.malformed (k + 1) ≡ checked s room
@@ -153,10 +168,11 @@ module _ (s : List ℕ) (room : ℕ) where
           let a : drop at s ≡ afterAll s = sym (all-after left (drop at s) full) ∙ h .tail in
           answer false _ (no-fault s at k w left h (no-more left (drop at s) full)) (sym t ∙ ap (λ (u : List ℕ). isEmpty u) a) refl
 
-      pub ended-answer : length s ≤ at → (v : Checked) → v ≡ sized k w room → v ≡ checked s room
+      pub ended-answer : length s ≤ at → (v : Checked) → v ≡ cond (ltb room (8 * w)) (Refused number.noRoom 1) (Accepted k w) → v ≡ checked s room
       ended-answer out v ev =
           let d : drop at s ≡ [] = drop-of-length-le s out in
           let none : recordsFrom left (drop at s) ≡ [] = ap (λ (u : List ℕ). recordsFrom left u) d ∙ none-left left in
           let a : afterAll s ≡ [] = sym (h .tail) ∙ ap (λ (u : List ℕ). after left u) d ∙ nothing-after left in
-          answer true v (no-fault s at k w left h none) (sym (ap (λ (u : List ℕ). isEmpty u) a))
-          (ev ∙ ap (λ (n : ℕ). sized n w room) (records-are s at k w left h none) ∙ ap (λ (n : ℕ). sized (headingIn s .records + length (records s)) n room) (widgets-are s at k w left h none))
+          let K = records-are s at k w left h none in
+          let W = widgets-are s at k w left h none in
+          answer true v (no-fault s at k w left h none) (sym (ap (λ (u : List ℕ). isEmpty u) a)) (ev ∙ rw (K, W))

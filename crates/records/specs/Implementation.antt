@@ -1,2 +1,2 @@
--- How the check keeps what each W says. Not part of the specification.
-pub mod Keeping
+-- How the check caches the sizes of W. Not part of the specification.
+pub mod SizeCache

@@ -1,7 +1,7 @@
 -- Document 01, "The sheet" and "Turned back", numbers 1 to 3: the checks over a whole sheet, before any record is laid out.
 use Prim.Native.Nat.{ℕ, zero, suc, _+_, _-_, _*_}
 use mathlib.Core.List.{List, [], _∷_}
-use mathlib.Core.Bool.{Bool, true, false}
+use mathlib.Core.Bool.{Bool, true, false, cond}
 use lib.ListN.{length, drop}
 use lib.Dec.{ltb, eqb}
 use Rattle.emath.specs.Numbers as number
@@ -76,20 +76,33 @@ abbrev pub isEmpty : {A : Type 0} → List A → Bool
 isEmpty [] = true
 isEmpty (x ∷ xs) = false
 
-abbrev pub pick : Bool → Checked → Checked → Checked
-pick true a b = a
-pick false a b = b
-
--- k records, w of them W, with so many places
-unfoldable pub sized : ℕ → ℕ → ℕ → Checked
-sized k w room = pick (ltb room (8 * w)) (Refused number.noRoom 1) (Accepted k w)
+-- a refusal's number, 0 for none, and the record that it is at
+pub record Fault : Type 0 where
+  pub number : ℕ
+  pub at : ℕ
 
 -- 1: "a record is malformed, misplaced or out of field range, among the first 512; an empty sheet, at record 1". 2: "any byte after the
 -- 512th record, named 513". 3: "slice shorter than 8 per W", at record 1.
+unfoldable pub sheetFault : List ℕ → ℕ → Fault
+sheetFault s room =
+    cond (eqb (misplaced s) 0)
+    (cond (isEmpty (afterAll s))
+    (cond (ltb room (8 * widgets (records s))) (record { number = number.noRoom; at = 1 }) (record { number = 0; at = 0 }))
+    (record { number = number.tooLong; at = mostRecords + 1 }))
+    (record { number = number.malformed; at = misplaced s })
+
+-- the answer: how many records and how many W, or the fault
 unfoldable pub checked : List ℕ → ℕ → Checked
 checked s room =
-    pick (eqb (misplaced s) 0)
-    (pick (isEmpty (afterAll s))
-    (sized (headingIn s .records + length (records s)) (widgets (records s)) room)
-    (Refused number.tooLong (mostRecords + 1)))
-    (Refused number.malformed (misplaced s))
+    cond (eqb (sheetFault s room .number) 0)
+    (Accepted (headingIn s .records + length (records s)) (widgets (records s)))
+    (Refused (sheetFault s room .number) (sheetFault s room .at))
+
+-- its number and its record, 0 and 0 where the sheet is accepted
+unfoldable pub checkedNumber : Checked → ℕ
+checkedNumber (Accepted k w) = 0
+checkedNumber (Refused n at) = n
+
+unfoldable pub checkedRecord : Checked → ℕ
+checkedRecord (Accepted k w) = 0
+checkedRecord (Refused n at) = at

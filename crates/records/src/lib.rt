@@ -5,19 +5,19 @@ use layout::Layout;
 
 mod grids;
 pub mod headings;
-pub mod kept;
 mod layouts;
 mod parts;
 pub mod records;
 pub mod sheets;
+pub mod size_cache;
 
 // Magnitude at most 2,097,152 ticks.
 pub const LIMIT: u32 = 2097152;
 
 pub const MAX_RECORDS: usize = 512;
 
-// Two places for each record, from record 1 on; place 0 and place 513 stay free.
-pub const KEPT: usize = 1026;
+// The cache of W sizes: two places for each record, from record 1 on; place 0 and place 513 stay free.
+pub const CACHE_LEN: usize = 1026;
 
 // G.
 pub struct GridOptions {

@@ -1,23 +1,26 @@
 // A whole sheet: numbers 1 to 3 of document 01's table.
+use crate::CACHE_LEN;
 use crate::Checked;
-use crate::KEPT;
 use crate::MAX_RECORDS;
 use crate::Record;
 use crate::Step;
 use crate::headings::heading_fault;
 use crate::headings::read_heading;
-use crate::kept::store;
 use crate::records::next_record;
 use crate::records::read_record;
+use crate::size_cache::store;
 use emath::numbers::MALFORMED;
 use emath::numbers::NO_ROOM;
 use emath::numbers::TOO_LONG;
 ghost use mathlib.Core.Path.{_≡_};
-ghost use Prim.Native.Nat.{ℕ, _≤_};
+ghost use mathlib.Core.Bool.{cond};
+ghost use Prim.Native.Nat.{_*_, _≤_};
+ghost use lib.Dec.{ltb};
 ghost use lib.ListN.{length};
-ghost use Rattle.records.specs.Sheets.{widgetStep, widget as widgetOf, checked, sized};
-ghost use Rattle.records.specs.declared.Checked.the-variants.{Accepted};
-ghost use Rattle.records.specs.Implementation.Keeping.{isStep, KeptIn};
+ghost use Rattle.emath.specs.Numbers as number;
+ghost use Rattle.records.specs.Sheets.{widgetStep, widget as widgetOf, sheetFault, checked, checkedNumber, checkedRecord};
+ghost use Rattle.records.specs.declared.Checked.the-variants.{Accepted, Refused};
+ghost use Rattle.records.specs.Implementation.SizeCache.{isStep, cachedBy};
 
 fn is_step(r: Record) -> bool
     ensures { λ b. ⌜ b ≡ isStep r ⌝ }
@@ -55,7 +58,7 @@ fn widget(r: Record) -> usize
 // The text has ended after k records, w of them W.
 fn ended(k: usize, w: usize, room: usize) -> Checked
     requires { ⌜ w ≤ 512 ⌝ }
-    ensures { λ r. ⌜ r ≡ sized k w room ⌝ }
+    ensures { λ r. ⌜ r ≡ cond (ltb room (8 * w)) (Refused number.noRoom 1) (Accepted k w) ⌝ }
 {
     if room < 8 * w {
         return Checked::Refused(NO_ROOM, 1);
@@ -63,10 +66,10 @@ fn ended(k: usize, w: usize, room: usize) -> Checked
     Checked::Accepted(k, w)
 }
 
-// What of 1 to 3 applies to the sheet, with a slice of so many places; or how many records and W it has, and then what each W says is kept.
-pub fn check_keeping(text: &[u8], room: usize, sizes: &mut [f32]) -> Checked
+// What of 1 to 3 applies to the sheet, with a slice of so many places; or how many records and W it has. Each W that is read goes to the cache.
+pub fn check_caching(text: &[u8], room: usize, sizes: &mut [f32]) -> Checked
     requires { ⌜ length (now sizes) ≡ 1026 ⌝ }
-    ensures { λ r. ⌜ (r ≡ checked (now (text .entry)) room) × ((k w : ℕ) → r ≡ Accepted k w → KeptIn (now (text .entry)) (now (sizes .exit))) ⌝ }
+    ensures { λ r. ⌜ (r ≡ checked (now (text .entry)) room) × (now (sizes .exit) ≡ cachedBy (now (text .entry)) (now (sizes .entry))) ⌝ }
 {
     let fault = heading_fault(text);
     if fault != 0 {
@@ -100,8 +103,8 @@ pub fn check_keeping(text: &[u8], room: usize, sizes: &mut [f32]) -> Checked
 }
 
 pub fn check(text: &[u8], room: usize) -> Checked
-    ensures { λ r. ⌜ r ≡ checked (now (text .entry)) room ⌝ }
+    ensures { λ r. ⌜ (r ≡ checked (now (text .entry)) room) × (checkedNumber r ≡ sheetFault (now (text .entry)) room .number) × (checkedRecord r ≡ sheetFault (now (text .entry)) room .at) ⌝ }
 {
-    let mut sizes: [f32; KEPT] = [0.0; KEPT];
-    check_keeping(text, room, &mut sizes)
+    let mut sizes: [f32; CACHE_LEN] = [0.0; CACHE_LEN];
+    check_caching(text, room, &mut sizes)
 }

@@ -10,5 +10,6 @@ pub mod Ticking
 pub mod Walks
 pub mod Walking
 pub mod WalkedRuns
+pub mod Returned
 pub mod WalkedPasses
 pub mod Shown

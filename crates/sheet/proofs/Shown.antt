@@ -1,28 +1,27 @@
 -- What an accepted call has shown: the pass of its text, a cell for each W among its rectangles. Assumes nothing.
-use Prim.Native.Nat.{ℕ, _+_, _*_, _<_, _≤_}
+use Prim.Native.Nat.{ℕ, _+_, _*_, _≤_}
 use mathlib.Core.Path.{_≡_, refl, ap, sym, _∙_}
 use mathlib.Core.Bool.{Bool, true, false, cond}
 use mathlib.Core.List.{List, [], _∷_, _++_}
 use native.Mathlib.Omega.{arith}
-use lib.Dec.{eqb, ltb}
+use lib.Dec.{eqb}
 use borrow.Author.Tests.{eqb-true}
 use lib.IntN.{ℤ}
 use lib.ListN.{length, drop, length-append}
 use Rattle.emath.specs.Steps.{tick}
-use Rattle.emath.specs.Numbers as number
 use Rattle.emath.specs.declared.Vec2.{Vec2}
 use Rattle.grid.specs.declared.Memory.{Memory}
 use Rattle.placer.specs.declared.Placer.{Placer}
-use Rattle.records.specs.Headings.{headingIn}
-use Rattle.records.specs.Sheets.{records, afterAll, misplaced, widgets, isEmpty, pick, sized, checked}
+use Rattle.records.specs.Sheets.{checked}
 use Rattle.records.specs.declared.Checked.{Checked}
 use Rattle.records.specs.declared.Checked.the-variants as checked-of
 use Rattle.records.specs.declared.Step.{Step}
+use Rattle.records.proofs.Checks.{some-number}
 use Rattle.sheet.specs.declared.Laid.the-variants.{Accepted, Refused}
 use Rattle.sheet.specs.declared.Passed.{Passed}
 use Rattle.sheet.specs.Pass.{Sheet, Cell, Ran, called, stepped, followed, runFrom, headed, gridded, begun, ranWith, pass}
 use Rattle.sheet.specs.Texts.{sheetIn}
-use Rattle.sheet.specs.Slices.{Called, controls, written, laidOf, judged, laid}
+use Rattle.sheet.specs.Slices.{Called, controls, written, laidOf, afterCheck, laid}
 use Rattle.sheet.proofs.Runs.{going, run-goes}
 use Rattle.sheet.proofs.Passes.{given}
 use Rattle.sheet.proofs.Slices.{one-cell, slice-is}
@@ -77,24 +76,12 @@ no-number n at h = go (eqb n 0) refl h
     go true e h = eqb-true n 0 e
     go false e h = let o : _≡_ {A = ℕ} 0 1 = cc in absurd (omega arith)
 
-pub some-number : (s : List ℕ) (room n at : ℕ) → checked s room ≡ checked-of.Refused n at → 0 < n
-unfolding checked sized
-some-number s room n at h = go (eqb (misplaced s) 0) (isEmpty (afterAll s)) (ltb room (8 * widgets (records s))) h
-  where
-    go : (a b c : Bool)
-        → pick a (pick b (pick c (checked-of.Refused number.noRoom 1) (checked-of.Accepted (headingIn s .records + length (records s)) (widgets (records s)))) (checked-of.Refused number.tooLong 513)) (checked-of.Refused number.malformed (misplaced s)) ≡ checked-of.Refused n at
-        → 0 < n
-    go true true true h = let e : 3 ≡ n = cc in omega (arith, e)
-    go true true false h = let o : _≡_ {A = ℕ} 0 1 = cc in absurd (omega arith)
-    go true false c h = let e : 2 ≡ n = cc in omega (arith, e)
-    go false b c h = let e : 1 ≡ n = cc in omega (arith, e)
-
 module _ (text : List ℕ) (known : Bool) (m : Memory) (sizing : Bool) (out : List ℤ) (p : Passed) (exit : List ℤ) where
   pub shown : Called text known m sizing out p exit → p .laid ≡ Accepted → Shown text known m sizing p exit
-  unfolding laid judged
+  unfolding laid afterCheck
   shown c l = go (checked text (length out)) refl (no-number _ _ (ap (λ (x : Passed). x .laid) (sym (c .answer)) ∙ l))
     where
-      go : (k : Checked) → checked text (length out) ≡ k → judged k text known m sizing out .outcome .number ≡ 0 → Shown text known m sizing p exit
+      go : (k : Checked) → checked text (length out) ≡ k → afterCheck k text known m sizing out .outcome .number ≡ 0 → Shown text known m sizing p exit
       go (checked-of.Refused n at) e h = absurd (omega (arith, h, some-number text (length out) n at e))
       go (checked-of.Accepted r w) e h = record {
         number = h;

@@ -6,22 +6,21 @@ use mathlib.Core.Bool.{Bool, true, false, cond}
 use mathlib.Core.List.{List, [], _∷_, _++_}
 use native.Mathlib.Omega.{arith}
 use lib.IntN.{ℤ}
-use lib.Dec.{eqb, ltb}
-use borrow.Author.Tests.{ltb-false, eqb-true}
+use lib.Dec.{eqb}
 use lib.ListN.{length, take, drop, length-append}
 use lib.Seq.{sets-eq, length-sets}
 use lib.Ieee.{Float}
 use Rattle.emath.specs.Steps.{tick}
-use Rattle.emath.specs.Numbers as number
-use Rattle.emath.proofs.Refusals.{or-none}
 use Rattle.emath.specs.declared.Vec2.{Vec2}
 use Rattle.grid.specs.declared.Memory.{Memory}
 use Rattle.placer.specs.declared.Placer.{Placer}
-use Rattle.records.specs.Headings.{headingIn, headingFault}
-use Rattle.records.specs.Sheets.{records, afterAll, wrongFrom, misplaced, widgets, widget, widgetStep, isEmpty, pick, sized, checked}
-use Rattle.records.specs.Implementation.Keeping.{KeptIn}
+use Rattle.records.specs.Headings.{headingIn}
+use Rattle.records.specs.Sheets.{records, wrongFrom, widgets, widget, widgetStep, checked}
+use Rattle.records.specs.Implementation.SizeCache.{cachedBy}
 use Rattle.records.proofs.Places.{heading-within}
 use Rattle.records.proofs.Prefixes.{few-records}
+use Rattle.records.proofs.Checks.{clear}
+use Rattle.records.proofs.SizeCache.{cached-in, cached-by-length}
 use Rattle.sheet.specs.Implementation.Walks.{OnlySteps, none, more, Room}
 use Rattle.records.specs.declared.Checked.{Checked}
 use Rattle.records.specs.declared.Checked.the-variants.{Accepted, Refused}
@@ -32,7 +31,7 @@ use Rattle.records.specs.declared.Record.the-variants as record-of
 use Rattle.sheet.specs.Pass as pass-rules
 use Rattle.sheet.specs.Pass.{Sheet, Cell, Ran, Stepped, stepped, followed, runFrom, called, headed, gridded, begun, ranWith, plateOf, remembered, refusedAt, outcomeOf, pass}
 use Rattle.sheet.specs.Texts.{stepsOf, sheetIn}
-use Rattle.sheet.specs.Slices.{written, judged, laid}
+use Rattle.sheet.specs.Slices.{written, afterCheck, laid}
 use Rattle.sheet.specs.Slices.{controls}
 
 pub written-length : (cs : List Cell) → length (written cs) ≡ 8 * length cs
@@ -102,55 +101,33 @@ sheet-few [] = omega arith
 sheet-few (record-of.Step st ∷ rs) = omega (arith, sheet-few rs)
 sheet-few (record-of.Wrong ∷ rs) = omega (arith, sheet-few rs)
 
--- ---- a text that is not refused
-pub record Clear (text : List ℕ) (room : ℕ) : Type 0 where
-  pub heading : headingFault text ≡ 0
-  pub steps : wrongFrom (headingIn text .records + 1) (records text) ≡ 0
-  pub fits : 8 * widgets (records text) ≤ room
-
-pub clear : (text : List ℕ) (room r w : ℕ) → checked text room ≡ Accepted r w → Clear text room
-unfolding checked sized misplaced
-clear text room r w h = go (eqb (misplaced text) 0) (isEmpty (afterAll text)) (ltb room (8 * widgets (records text))) refl refl h
-  where
-    go : (a b c : Bool) → eqb (misplaced text) 0 ≡ a → ltb room (8 * widgets (records text)) ≡ c
-        → pick a (pick b (pick c (Refused number.noRoom 1) (Accepted (headingIn text .records + length (records text)) (widgets (records text)))) (Refused number.tooLong 513)) (Refused number.malformed (misplaced text)) ≡ Accepted r w
-        → Clear text room
-    go true true true e d h = let o : _≡_ {A = ℕ} 0 1 = cc in absurd (omega arith)
-    go true true false e d h =
-        let z = or-none (headingFault text) (wrongFrom (headingIn text .records + 1) (records text)) (eqb-true (misplaced text) 0 e) in
-        record { heading = z .0; steps = z .1; fits = ltb-false room (8 * widgets (records text)) d }
-    go true false c e d h = let o : _≡_ {A = ℕ} 0 1 = cc in absurd (omega arith)
-    go false b c e d h = let o : _≡_ {A = ℕ} 0 1 = cc in absurd (omega arith)
-
-pub room-there : (text : List ℕ) (room r w : ℕ) → checked text room ≡ Accepted r w → 8 * widgets (records text) ≤ room
-room-there text room r w h = clear text room r w h .fits
-
--- so its records are steps
+-- ---- the records of a text that is not refused are steps
 pub only-steps : (k : ℕ) (rs : List Record) → 0 < k → wrongFrom k rs ≡ 0 → OnlySteps rs
 unfolding wrongFrom
 only-steps k [] l h = none
 only-steps k (record-of.Step st ∷ rs) l h = more (only-steps (k + 1) rs (omega arith) h)
 only-steps k (record-of.Wrong ∷ rs) l h = absurd (omega (arith, h))
 
-pub room-after : (text : List ℕ) (room r w : ℕ) (sizes : List Float) → length sizes ≡ 1026 → KeptIn text sizes → checked text room ≡ Accepted r w → Room (headingIn text) text room sizes
-room-after text room r w sizes l k e =
+-- there is room for it, and its W are cached
+pub room-after : (text : List ℕ) (room r w : ℕ) (sizes : List Float) → length sizes ≡ 1026 → checked text room ≡ Accepted r w → Room (headingIn text) text room (cachedBy text sizes)
+room-after text room r w sizes l e =
     let c = clear text room r w e in
     record {
       few = omega (arith, few-records text);
       begins = heading-within text;
       only = only-steps (headingIn text .records + 1) (records text) (omega arith) (c .steps);
       fits = c .fits;
-      places = l;
-      kept = k;
+      places = cached-by-length text sizes ∙ l;
+      cached = cached-in text room r w sizes l e;
     }
 
 -- ---- the slice
 -- it stays as long as it was
 pub laid-length : (text : List ℕ) (known : Bool) (m : Memory) (sizing : Bool) (out : List ℤ) → length (laid text known m sizing out .slice) ≡ length out
-unfolding laid judged
+unfolding laid afterCheck
 laid-length text known m sizing out = go (checked text (length out))
   where
-    go : (c : Checked) → length (judged c text known m sizing out .slice) ≡ length out
+    go : (c : Checked) → length (afterCheck c text known m sizing out .slice) ≡ length out
     go (Refused n at) = refl
     go (Accepted r w) = length-sets out 0 (written (pass tick (sheetIn text) known m sizing .cells))
 
@@ -160,17 +137,17 @@ module _ (text : List ℕ) (known : Bool) (m : Memory) (sizing : Bool) (out : Li
 
   -- 1 to 3 leave it as it was
   pub untouched : (n at : ℕ) → checked text (length out) ≡ Refused n at → laid text known m sizing out .slice ≡ out
-  unfolding laid judged
+  unfolding laid afterCheck
   untouched n at e = rw e
 
   -- later each W before the fault has its eight places, and every other place holds what it held
   pub slice-is : (r w : ℕ) → checked text (length out) ≡ Accepted r w → laid text known m sizing out .slice ≡ written cells ++ drop (8 * length cells) out
-  unfolding laid judged
+  unfolding laid afterCheck
   slice-is r w e =
       let f = pass-few tick (sheetIn text) known m sizing in
       let g = sheet-few (records text) in
       let l = written-length cells in
-      rw e (sets-eq (written cells) out 0 (omega (arith, l, f, g, room-there text (length out) r w e)) ∙ rest l)
+      rw e (sets-eq (written cells) out 0 (omega (arith, l, f, g, clear text (length out) r w e .fits)) ∙ rest l)
     where
       rest : length (written cells) ≡ 8 * length cells → take 0 out ++ (written cells ++ drop (0 + length (written cells)) out) ≡ written cells ++ drop (8 * length cells) out
       rest l = let z : 0 + length (written cells) ≡ 8 * length cells = omega (arith, l) in rw z

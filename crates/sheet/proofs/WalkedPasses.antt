@@ -20,10 +20,11 @@ use Rattle.records.specs.declared.Step.{Step}
 use Rattle.records.specs.declared.Checked.the-variants.{Accepted, Refused}
 use Rattle.sheet.specs.Pass.{Sheet, Ran, called, followed, runFrom, headed, gridded, refusedAt, outcomeOf, begun, ranWith, pass}
 use Rattle.sheet.specs.Texts.{sheetIn}
-use Rattle.sheet.specs.Slices.{written, passedOf, Called, judged, laid}
+use Rattle.sheet.specs.Slices.{written, passedOf, Called, afterCheck, laid}
 use Rattle.sheet.specs.declared.Passed.{Passed}
 use Rattle.sheet.specs.Implementation.Walks.{Run, ranOf, Walked, Answers, sheetAfter}
 use Rattle.sheet.proofs.Slices.{outcome-cells}
+use Rattle.sheet.proofs.Returned as returned
 
 -- ---- what a run comes to
 -- the loop's, where it came to an end
@@ -74,16 +75,16 @@ pass-answers s known m sizing out p exit x =
 -- a text that was accepted
 pub as-called : (text : List ℕ) (known : Bool) (m : Memory) (sizing : Bool) (out : List ℤ) (h : Heading) (p : Passed) (exit : List ℤ) (r w : ℕ) → checked text (length out) ≡ Accepted r w → h ≡ headingIn text
     → (p ≡ passedOf (pass tick (sheetAfter h text) known m sizing)) × (exit ≡ sets out 0 (written (pass tick (sheetAfter h text) known m sizing .cells))) → Called text known m sizing out p exit
-unfolding laid judged
+unfolding laid afterCheck
 as-called text known m sizing out h p exit r w e eh x =
     let y : (p ≡ passedOf (pass tick (sheetIn text) known m sizing)) × (exit ≡ sets out 0 (written (pass tick (sheetIn text) known m sizing .cells))) = rw eh at x in
-    record { answer = y .0 ∙ rw e; slice = y .1 ∙ rw e }
+    returned.called text known m sizing out p exit (y .0 ∙ rw e) (y .1 ∙ rw e)
 
 -- and one that was refused
 pub as-refused : (text : List ℕ) (known : Bool) (m : Memory) (sizing : Bool) (out : List ℤ) (p : Passed) (n at : ℕ) → checked text (length out) ≡ Refused n at → p ≡ passedOf (refusedAt n at [] m)
     → Called text known m sizing out p out
-unfolding laid judged
-as-refused text known m sizing out p n at e x = record { answer = x ∙ rw e; slice = rw e }
+unfolding laid afterCheck
+as-refused text known m sizing out p n at e x = returned.called text known m sizing out p out (x ∙ rw e) (rw e)
 
 pub no-such : {A : Type 0} → false ≡ true → A
 no-such e = let o : _≡_ {A = ℕ} 0 1 = cc in absurd (omega arith)

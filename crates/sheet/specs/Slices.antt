@@ -36,6 +36,15 @@ written (c ∷ rest) = eight c ++ written rest
 unfoldable pub laidOf : ℕ → ℕ → Laid
 laidOf number at = cond (eqb number 0) laid-of.Accepted (laid-of.Refused number at)
 
+-- its number and its record, 0 and 0 where the pass is accepted
+unfoldable pub laidNumber : Laid → ℕ
+laidNumber laid-of.Accepted = 0
+laidNumber (laid-of.Refused n at) = n
+
+unfoldable pub laidRecord : Laid → ℕ
+laidRecord laid-of.Accepted = 0
+laidRecord (laid-of.Refused n at) = at
+
 abbrev pub passedOf : Outcome → Passed
 passedOf o = record { laid = laidOf (o .number) (o .at); plate = o .plate; memory = o .memory; save = o .save }
 
@@ -46,20 +55,26 @@ pub record LaidOut : Type 0 where
 
 -- "After 1 to 3 the lent slice is untouched; later, records before the fault have theirs and all other places keep what they held before that
 -- pass."
-unfoldable pub judged : Checked → List ℕ → Bool → Memory → Bool → List ℤ → LaidOut
-judged (Refused n at) text known m sizing out = record { outcome = refusedAt n at [] m; slice = out }
-judged (Accepted records widgets) text known m sizing out = record {
+unfoldable pub afterCheck : Checked → List ℕ → Bool → Memory → Bool → List ℤ → LaidOut
+afterCheck (Refused n at) text known m sizing out = record { outcome = refusedAt n at [] m; slice = out }
+afterCheck (Accepted records widgets) text known m sizing out = record {
   outcome = pass tick (sheetIn text) known m sizing;
   slice = sets out 0 (written (pass tick (sheetIn text) known m sizing .cells));
 }
 
 unfoldable pub laid : List ℕ → Bool → Memory → Bool → List ℤ → LaidOut
-laid text known m sizing out = judged (checked text (length out)) text known m sizing out
+laid text known m sizing out = afterCheck (checked text (length out)) text known m sizing out
 
--- what the call promises: its answer, and the slice at its exit
-pub record Called (text : List ℕ) (known : Bool) (m : Memory) (sizing : Bool) (out : List ℤ) (p : Passed) (exit : List ℤ) : Type 0 where
-  pub answer : p ≡ passedOf (laid text known m sizing out .outcome)
-  pub slice : exit ≡ laid text known m sizing out .slice
+-- what a call that gives this promises: its answer, the number and the record in it, and the slice at its exit
+pub record Returns (l : LaidOut) (p : Passed) (exit : List ℤ) : Type 0 where
+  pub answer : p ≡ passedOf (l .outcome)
+  pub number : laidNumber (p .laid) ≡ l .outcome .number
+  pub at : laidRecord (p .laid) ≡ l .outcome .at
+  pub slice : exit ≡ l .slice
+
+-- the call of one pass
+abbrev pub Called : List ℕ → Bool → Memory → Bool → List ℤ → Passed → List ℤ → Type 0
+Called text known m sizing out p exit = Returns (laid text known m sizing out) p exit
 
 -- how many W there are
 unfoldable pub controls : List Step → ℕ

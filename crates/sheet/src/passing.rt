@@ -11,22 +11,20 @@ use grid::memories::widths_of;
 use placer::Placer;
 use placer::lent::bare;
 use placer::lent::spot;
+use records::CACHE_LEN;
 use records::Checked;
 use records::Heading;
-use records::KEPT;
 use records::MAX_RECORDS;
 use records::headings::read_heading;
-use records::sheets::check_keeping;
+use records::sheets::check_caching;
 ghost use mathlib.Core.Path.{_≡_};
-ghost use Prim.Native.Nat.{ℕ, _+_, _*_, _≤_};
+ghost use Prim.Native.Nat.{_+_, _*_, _≤_};
 ghost use lib.ListN.{length, drop};
 ghost use lib.Seq.{sets};
 ghost use Rattle.emath.specs.Steps.{tick};
 ghost use Rattle.placer.specs.Refusals.{placerFault};
-ghost use Rattle.records.specs.Headings.{headingIn};
-ghost use Rattle.records.specs.Sheets.{recordsFrom, widgets, checked};
-ghost use Rattle.records.specs.Implementation.Keeping.{Kept};
-ghost use Rattle.records.specs.declared.Checked.the-variants.{Accepted};
+ghost use Rattle.records.specs.Sheets.{recordsFrom, widgets};
+ghost use Rattle.records.specs.Implementation.SizeCache.{AreCached, cachedBy};
 ghost use Rattle.sheet.specs.Pass.{called, followed, gridded as griddedBy, runFrom, pass as passBy};
 ghost use Rattle.sheet.specs.Texts.{stepsOf};
 ghost use Rattle.sheet.specs.Slices.{written, passedOf, Called};
@@ -47,7 +45,7 @@ fn walk_from(
 ) -> Passed
     requires { ⌜ placerFault placer ≡ 0 ⌝ }
     requires { ⌜ (from ≤ length (now text)) × (first + most ≤ 513) ⌝ }
-    requires { ⌜ OnlySteps (recordsFrom most (drop from (now text))) × (8 * widgets (recordsFrom most (drop from (now text))) ≤ length (now out)) × (length (now sizes) ≡ 1026) × Kept most (drop from (now text)) (now sizes) first ⌝ }
+    requires { ⌜ OnlySteps (recordsFrom most (drop from (now text))) × (8 * widgets (recordsFrom most (drop from (now text))) ≤ length (now out)) × (length (now sizes) ≡ 1026) × AreCached most (drop from (now text)) (now sizes) first ⌝ }
     ensures { λ r. ⌜ Answers grid memory (runFrom tick spacing first placer (stepsOf (recordsFrom most (drop from (now (text .entry)))))) (now (out .entry)) r (now (out .exit)) ⌝ }
 {
     let g = placer.grid;
@@ -151,8 +149,8 @@ fn from_heading(
     go_on(p, heading, text, sizes, memory, out)
 }
 
-// A pass over a text that was checked before, with what each W says in `sizes`.
-pub fn pass_again(
+// A pass over a text that was checked before, with its W cached in `sizes`.
+pub fn pass_cached(
     text: &[u8],
     sizes: &[f32],
     known: bool,
@@ -166,8 +164,8 @@ pub fn pass_again(
     from_heading(read_heading(text), text, sizes, known, memory, sizing, out)
 }
 
-// As `pass`; the check, which comes first, keeps in `sizes` what each W says.
-pub fn pass_keeping(
+// As `pass`; the check, which comes first, fills the cache `sizes`.
+pub fn pass_caching(
     text: &[u8],
     sizes: &mut [f32],
     known: bool,
@@ -176,10 +174,10 @@ pub fn pass_keeping(
     out: &mut [i32],
 ) -> Passed
     requires { ⌜ length (now sizes) ≡ 1026 ⌝ }
-    ensures { λ p. ⌜ Called (now (text .entry)) known memory sizing (now (out .entry)) p (now (out .exit)) × ((r w : ℕ) → checked (now (text .entry)) (length (now (out .entry))) ≡ Accepted r w → Room (headingIn (now (text .entry))) (now (text .entry)) (length (now (out .entry))) (now (sizes .exit))) ⌝ }
+    ensures { λ p. ⌜ Called (now (text .entry)) known memory sizing (now (out .entry)) p (now (out .exit)) × (now (sizes .exit) ≡ cachedBy (now (text .entry)) (now (sizes .entry))) ⌝ }
 {
     let room = out.len();
-    match check_keeping(text, room, sizes) {
+    match check_caching(text, room, sizes) {
         Checked::Accepted(_, _) => {
             from_heading(
                 read_heading(text),
@@ -200,6 +198,6 @@ pub fn pass_keeping(
 pub fn pass(text: &[u8], known: bool, memory: Memory, sizing: bool, out: &mut [i32]) -> Passed
     ensures { λ p. ⌜ Called (now (text .entry)) known memory sizing (now (out .entry)) p (now (out .exit)) ⌝ }
 {
-    let mut sizes: [f32; KEPT] = [0.0; KEPT];
-    pass_keeping(text, &mut sizes, known, memory, sizing, out)
+    let mut sizes: [f32; CACHE_LEN] = [0.0; CACHE_LEN];
+    pass_caching(text, &mut sizes, known, memory, sizing, out)
 }

@@ -5,19 +5,19 @@ use crate::steps::record_moved;
 use emath::Vec2;
 use placer::BarePlacer;
 use placer::Spot;
-use records::kept::kept_record;
 use records::records::next_record;
+use records::size_cache::cached_record;
 ghost use mathlib.Core.Path.{_≡_};
 ghost use Prim.Native.Nat.{_+_, _*_, _≤_};
 ghost use lib.ListN.{length, drop};
 ghost use Rattle.records.specs.Sheets.{recordsFrom, widgets};
-ghost use Rattle.records.specs.Implementation.Keeping.{Kept};
+ghost use Rattle.records.specs.Implementation.SizeCache.{AreCached};
 ghost use Rattle.placer.specs.Implementation.Lent.{placerOf};
 ghost use Rattle.sheet.specs.Implementation.Calls.{Ready};
 ghost use Rattle.sheet.specs.Texts.{stepsOf};
 ghost use Rattle.sheet.specs.Implementation.Walks.{runOf, Walked, OnlySteps};
 
-// From the place `from`, where record `first` is, at most `most` records, the W as they were kept; each W's rectangles go to the slice.
+// From the place `from`, where record `first` is, at most `most` records, the W from the cache; each W's rectangles go to the slice.
 pub fn run(
     text: &[u8],
     sizes: &[f32],
@@ -35,7 +35,7 @@ pub fn run(
 ) -> SpotRun
     requires { ⌜ Ready placer spot (now «prev_widths») (now «prev_heights») (now widths) (now heights) ⌝ }
     requires { ⌜ (from ≤ length (now text)) × (first + most ≤ 513) ⌝ }
-    requires { ⌜ OnlySteps (recordsFrom most (drop from (now text))) × (8 * widgets (recordsFrom most (drop from (now text))) ≤ length (now out)) × (length (now sizes) ≡ 1026) × Kept most (drop from (now text)) (now sizes) first ⌝ }
+    requires { ⌜ OnlySteps (recordsFrom most (drop from (now text))) × (8 * widgets (recordsFrom most (drop from (now text))) ≤ length (now out)) × (length (now sizes) ≡ 1026) × AreCached most (drop from (now text)) (now sizes) first ⌝ }
     ensures { λ r. ⌜ Walked spacing first (placerOf placer spot (now («prev_widths» .entry)) (now («prev_heights» .entry)) (now (widths .entry)) (now (heights .entry))) (stepsOf (recordsFrom most (drop from (now (text .entry))))) (now (out .entry)) (runOf placer r (now («prev_widths» .entry)) (now («prev_heights» .entry)) (now (widths .exit)) (now (heights .exit))) (now (out .exit)) ⌝ }
 {
     let mut s = spot;
@@ -59,7 +59,7 @@ pub fn run(
             widths,
             heights,
             spacing,
-            kept_record(text, at, sizes, n),
+            cached_record(text, at, sizes, n),
         );
         let number = m.number;
         let next = m.spot;

@@ -20,6 +20,7 @@ use Rattle.records.specs.Headings.{headingIn}
 use Rattle.records.specs.Sheets.{records, widget, widgets, checked}
 use Rattle.records.specs.declared.Record.{Record}
 use Rattle.records.specs.declared.Checked.the-variants as checked-of
+use Rattle.records.proofs.Checks.{clear}
 use Rattle.sheet.specs.Pass.{Cell, Outcome, pass}
 use Rattle.sheet.specs.Passes.{passes}
 use Rattle.pass_laws.specs.WholeCells.{WholeCells, more}
@@ -27,12 +28,12 @@ use Rattle.sheet.specs.Ticks.{ticks, inTicks}
 use Rattle.sheet.specs.Slices.{edges, eight}
 use Rattle.sheet.specs.Texts.{sheetIn}
 use Rattle.sheet.proofs.Shown.{pass-all}
-use Rattle.sheet.proofs.Slices.{pass-few, room-there}
+use Rattle.sheet.proofs.Slices.{pass-few}
 use Rattle.pass_laws.proofs.TextTicks.{text-whole}
 use Rattle.sheet.proofs.WalkedPasses.{no-such}
 use Rattle.pass_laws.proofs.WholeEdges.{whole-pass}
 use Rattle.listing.specs.Lists.{widgetLines, printed, acceptedLines, outcomeLines, memoryLines, answered, listOf}
-use Rattle.listing.specs.Implementation.Putting.{WholeMemory}
+use Rattle.listing.specs.Implementation.ListWriter.{WholeMemory}
 use Rattle.listing.proofs.Memories.{first-whole, second-whole}
 use Rattle.listing.proofs.Places.{all-controls}
 use Rattle.listing.proofs.Texts.{ticks-are}
@@ -164,7 +165,7 @@ module _ (text : List ℕ) (r w : ℕ) (e : checked text 4096 ≡ checked-of.Acc
       let a = all-controls text in
       let b = pass-all 5 (sheetIn text) known m sizing z in
       let d = pass-few 5 (sheetIn text) known m sizing in
-      let t = room-there text 4096 r w e in
+      let t = clear text 4096 r w e .fits in
       let v = whole-pass 5 (omega arith) (sheetIn text) (text-whole text) known m sizing in
       shows (headingIn text .records + 1) grid (records text) (pass 5 (sheetIn text) known m sizing) f (omega (arith, a, b, d)) (omega (arith, a, d, t)) (v .cells) (v .plate)
 

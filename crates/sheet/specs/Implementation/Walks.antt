@@ -17,7 +17,7 @@ use Rattle.placer.specs.declared.Placer.{Placer}
 use Rattle.placer.specs.declared.BarePlacer.{BarePlacer}
 use Rattle.records.specs.Sheets.{mostRecords, recordsFrom, widgets, checked}
 use Rattle.records.specs.Headings.{headingIn}
-use Rattle.records.specs.Implementation.Keeping.{Kept}
+use Rattle.records.specs.Implementation.SizeCache.{AreCached}
 use Rattle.records.specs.declared.Heading.{Heading}
 use Rattle.records.specs.declared.Step.{Step}
 use Rattle.records.specs.declared.Record.{Record}
@@ -72,14 +72,14 @@ recordsAfter h text = recordsFrom (mostRecords - h .records) (drop (h .next) tex
 abbrev pub sheetAfter : Heading → List ℕ → Sheet
 sheetAfter h text = record { heading = h; steps = stepsOf (recordsAfter h text) }
 
--- a text was checked: its steps are steps, the slice has room for the W among them, and what each says is kept
+-- a text was checked: its steps are steps, the slice has room for the W among them, and these are cached
 pub record Room (h : Heading) (text : List ℕ) (room : ℕ) (sizes : List Float) : Type 0 where
   pub few : h .records ≤ mostRecords
   pub begins : h .next ≤ length text
   pub only : OnlySteps (recordsAfter h text)
   pub fits : 8 * widgets (recordsAfter h text) ≤ room
   pub places : length sizes ≡ 1026
-  pub kept : Kept (mostRecords - h .records) (drop (h .next) text) sizes (h .records + 1)
+  pub cached : AreCached (mostRecords - h .records) (drop (h .next) text) sizes (h .records + 1)
 
 pub record Known (text : List ℕ) (room : ℕ) (sizes : List Float) : Type 0 where
   pub all : ℕ

@@ -1,3 +1,4 @@
+-- `listing::lines::place` meets its contract. Assumes nothing.
 use lib.ListN.{List·getD-eq-default}
 use lib.IntN.{pos}
 use mathlib.Core.Path.{sym}
@@ -5,17 +6,8 @@ use borrow.Author.Needs.{needs}
 use Rattle.listing.proofs.lines.place.Statement.{statement}
 use Rattle.listing.proofs.lines.place.Tie as tie
 
-mul-result : tie.Need-mul-result
-mul-result c = search needs
-
-shared-slice-copy-out-result : tie.Need-shared-slice-copy-out-result
-shared-slice-copy-out-result c = search needs
-
-returns : tie.Need-returns
-returns c = search needs
-
 returns-2 : tie.Need-returns-2
 returns-2 c = sym (List·getD-eq-default (c .before .args .cells .now) (pos 0) (c .if1 .left))
 
 pub place-spec : {M : Type 1} → statement M
-place-spec = tie.close (tie.spec mul-result shared-slice-copy-out-result returns returns-2)
+place-spec = tie.close (tie.spec (λ c. search needs) (λ c. search needs) (λ c. search needs) returns-2)

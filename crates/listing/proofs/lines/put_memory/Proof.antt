@@ -1,18 +1,13 @@
+-- `listing::lines::put_memory` meets its contract. Assumes nothing.
 use mathlib.Core.Path.{_≡_, ap, _∙_}
 use Prim.Native.Nat.{_-_, _≤_}
 use native.Mathlib.Omega.{arith}
 use lib.ListN.{length, length-take}
 use Rattle.grid.specs.Memories.{heights}
-use Rattle.listing.specs.Implementation.Putting.{Put, putEntries, putMemory}
+use Rattle.listing.specs.Implementation.ListWriter.{Put, putEntries, putMemory}
 use borrow.Author.Needs.{needs}
 use Rattle.listing.proofs.lines.put_memory.Statement.{statement}
 use Rattle.listing.proofs.lines.put_memory.Tie as tie
-
-sub-put-entries : tie.Need-sub-put-entries
-sub-put-entries c = search needs
-
-part-put-entries-start : tie.Need-part-put-entries-start
-part-put-entries-start c = search needs
 
 part-put-entries-end : tie.Need-part-put-entries-end
 part-put-entries-end c =
@@ -28,12 +23,6 @@ put-entries-requires c κs =
     let q = c .before .before .before .before .before .before .pre in
     rw z (simp length-take (omega (arith, q .cols)), q .widths)
 
-sub-put-entries-2 : tie.Need-sub-put-entries-2
-sub-put-entries-2 c = search needs
-
-part-put-entries-start-2 : tie.Need-part-put-entries-start-2
-part-put-entries-start-2 c = search needs
-
 part-put-entries-end-2 : tie.Need-part-put-entries-end-2
 part-put-entries-end-2 c =
     let m = c .before .before .before .before .before .before .before .before .before .before .before .args .memory in
@@ -48,9 +37,6 @@ put-entries-requires-2 c κs =
     let q = c .before .before .before .before .before .before .before .before .before .before .before .before .pre in
     rw z (simp length-take (omega (arith, q .rows)), q .heights)
 
-same-length : tie.Need-same-length
-same-length c = search needs
-
 returns : tie.Need-returns
 unfolding putMemory
 returns c =
@@ -60,16 +46,4 @@ returns c =
     rw z at (c .before .before .put-entries2 .ensures) ∙ ap (λ (p : Put). putEntries 68 0 (heights m) p) (rw y at (c .before .before .before .before .before .before .before .before .put-entries .ensures))
 
 pub put-memory-spec : {M : Type 1} → statement M
-put-memory-spec =
-    tie.close
-    (tie.spec
-    sub-put-entries
-    part-put-entries-start
-    part-put-entries-end
-    put-entries-requires
-    sub-put-entries-2
-    part-put-entries-start-2
-    part-put-entries-end-2
-    put-entries-requires-2
-    same-length
-    returns)
+put-memory-spec = tie.close (tie.spec (λ c. search needs) (λ c. search needs) part-put-entries-end put-entries-requires (λ c. search needs) (λ c. search needs) part-put-entries-end-2 put-entries-requires-2 (λ c. search needs) returns)

@@ -1,3 +1,4 @@
+-- `listing::lines::put_refusal` meets its contract. Assumes nothing.
 use mir.Facts.{toZ-pos}
 use mir.Val.{toZ}
 use mir.Syntax.{w32}
@@ -8,21 +9,6 @@ use borrow.Author.Needs.{needs}
 use Rattle.listing.proofs.lines.put_refusal.Statement.{statement}
 use Rattle.listing.proofs.lines.put_refusal.Tie as tie
 
-cast-t5 : tie.Need-cast-t5
-cast-t5 c = search needs
-
-cast-t6 : tie.Need-cast-t6
-cast-t6 c = search needs
-
-slice-aggregate-put-line : tie.Need-slice-aggregate-put-line
-slice-aggregate-put-line c = search needs
-
-put-line-requires : tie.Need-put-line-requires
-put-line-requires c κs = search needs
-
-same-length : tie.Need-same-length
-same-length c = search needs
-
 returns : tie.Need-returns
 returns c =
     let a = c .before .before .before .before .before .before .args in
@@ -31,6 +17,4 @@ returns c =
     (rw (e0, e1) at (c .before .before .put-line .ensures), omega arith)
 
 pub put-refusal-spec : {M : Type 1} → statement M
-put-refusal-spec =
-    tie.close
-    (tie.spec cast-t5 cast-t6 slice-aggregate-put-line put-line-requires same-length returns)
+put-refusal-spec = tie.close (tie.spec (λ c. search needs) (λ c. search needs) (λ c. search needs) (λ c κs. search needs) (λ c. search needs) returns)

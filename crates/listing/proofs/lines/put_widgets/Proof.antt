@@ -1,3 +1,4 @@
+-- `listing::lines::put_widgets` meets its contract. Assumes nothing.
 use borrow.Author.Needs.{needs}
 use Rattle.listing.proofs.lines.put_widgets.Statement.{statement}
 use Rattle.listing.proofs.lines.put_widgets.Tie as tie

@@ -1,7 +1,8 @@
+-- `listing::lines::put_widgets_from` meets its contract. Assumes nothing.
 use native.Mathlib.Omega.{arith}
 use mathlib.Core.Path.{_∙_}
 use Rattle.listing.proofs.Puts.{widgets-turn, widgets-end, widgets-full}
-use Rattle.listing.specs.Implementation.Putting.{putWidgets}
+use Rattle.listing.specs.Implementation.ListWriter.{putWidgets}
 use lib.ListN.{length, drop}
 use mathlib.Core.Path.{_≡_}
 use Prim.Native.Nat.{_+_, _≤_}
@@ -16,35 +17,8 @@ Inv-loop out₀ text cells from first most at₀ n₀ k₀ end₀ left₀ out at
 abbrev μ-loop : tie.MeasureT-loop
 μ-loop out₀ text cells from first most at₀ n₀ k₀ end₀ left₀ out at n k end left = left
 
-loop-holds : tie.Need-loop-holds Inv-loop μ-loop
-loop-holds c = search needs
-
-same-length : tie.Need-same-length Inv-loop μ-loop
-same-length c = search needs
-
 returns : tie.Need-returns Inv-loop μ-loop
 returns c = widgets-end (c .before .before .before .before .before .args .text .now) (c .before .before .before .before .before .args .cells .now) (c .before .before .loop .left) (c .before .before .loop .n) (c .before .before .loop .k) (c .before .before .loop .at) _ _ (c .before .before .loop .inv .3) (c .if1 .taken)
-
-widget-at-requires : tie.Need-widget-at-requires Inv-loop μ-loop
-widget-at-requires c κs = search needs
-
-put-widget-requires : tie.Need-put-widget-requires Inv-loop μ-loop
-put-widget-requires c κs = search needs
-
-add-k : tie.Need-add-k Inv-loop μ-loop
-add-k c = search needs
-
-next-record-requires : tie.Need-next-record-requires Inv-loop μ-loop
-next-record-requires c κs = search needs
-
-add-n : tie.Need-add-n Inv-loop μ-loop
-add-n c = search needs
-
-sub-left : tie.Need-sub-left Inv-loop μ-loop
-sub-left c = search needs
-
-loop-less : tie.Need-loop-less Inv-loop μ-loop
-loop-less c = search needs
 
 loop-again : tie.Need-loop-again Inv-loop μ-loop
 loop-again c =
@@ -54,28 +28,8 @@ loop-again c =
     let t = widgets-turn (a .text .now) (a .cells .now) (l .left) (l .n) (l .k) (l .at) _ _ (l .inv .3) (c .before .before .before .before .before .before .before .loop-test .taken) (c .before .before .before .before .before .before .if1 .left) _ _ (w .0) (c .before .before .before .put-widget .ensures) in
     (c .before .before .before .put-widget .kept .0 ∙ l .inv .0, search needs, omega (arith, l .inv .2, w .1), rw (c .next-record .ensures) t)
 
-same-length-2 : tie.Need-same-length-2 Inv-loop μ-loop
-same-length-2 c = search needs
-
 returns-2 : tie.Need-returns-2 Inv-loop μ-loop
 returns-2 c = widgets-full (c .before .before .before .before .args .text .now) (c .before .before .before .before .args .cells .now) (c .before .loop .left) (c .before .loop .n) (c .before .loop .k) (c .before .loop .at) _ _ (c .before .loop .inv .3) (c .loop-test .left)
 
 pub put-widgets-from-spec : {M : Type 1} → statement M
-put-widgets-from-spec =
-    tie.close
-    (tie.spec
-    Inv-loop
-    μ-loop
-    loop-holds
-    same-length
-    returns
-    widget-at-requires
-    put-widget-requires
-    add-k
-    next-record-requires
-    add-n
-    sub-left
-    loop-less
-    loop-again
-    same-length-2
-    returns-2)
+put-widgets-from-spec = tie.close (tie.spec Inv-loop μ-loop (λ c. search needs) (λ c. search needs) returns (λ c κs. search needs) (λ c κs. search needs) (λ c. search needs) (λ c κs. search needs) (λ c. search needs) (λ c. search needs) (λ c. search needs) loop-again (λ c. search needs) returns-2)

@@ -1,11 +1,9 @@
+-- `listing::lines::widget_at` meets its contract. Assumes nothing.
 use Rattle.listing.proofs.Puts.{marked, not-marked, none-marked}
 use native.Mathlib.Omega.{arith}
 use borrow.Author.Needs.{needs}
 use Rattle.listing.proofs.lines.widget_at.Statement.{statement}
 use Rattle.listing.proofs.lines.widget_at.Tie as tie
-
-shared-slice-read-if2 : tie.Need-shared-slice-read-if2
-shared-slice-read-if2 c = search needs
 
 returns : tie.Need-returns
 returns c = (marked (c .before .before .before .args .text .now) (c .before .before .before .args .at) (c .if2 .taken), omega arith)
@@ -17,4 +15,4 @@ returns-3 : tie.Need-returns-3
 returns-3 c = (none-marked (c .before .args .text .now) (c .before .args .at) (c .if1 .left), omega arith)
 
 pub widget-at-spec : {M : Type 1} → statement M
-widget-at-spec = tie.close (tie.spec shared-slice-read-if2 returns returns-2 returns-3)
+widget-at-spec = tie.close (tie.spec (λ c. search needs) returns returns-2 returns-3)

@@ -1,13 +1,8 @@
-use Rattle.listing.specs.Implementation.Putting.{isAccepted}
+-- `listing::printing::is_accepted` meets its contract. Assumes nothing.
+use Rattle.listing.specs.Implementation.ListWriter.{isAccepted}
 use borrow.Author.Needs.{needs}
 use Rattle.listing.proofs.printing.is_accepted.Statement.{statement}
 use Rattle.listing.proofs.printing.is_accepted.Tie as tie
-
-enum-told : tie.Need-enum-told
-enum-told c = search needs
-
-enum-told-2 : tie.Need-enum-told-2
-enum-told-2 c = search needs
 
 returns : tie.Need-returns
 unfolding isAccepted
@@ -18,4 +13,4 @@ unfolding isAccepted
 returns-2 c = rw (c .enum-told2 .given .1)
 
 pub is-accepted-spec : {M : Type 1} → statement M
-is-accepted-spec = tie.close (tie.spec enum-told enum-told-2 returns returns-2)
+is-accepted-spec = tie.close (tie.spec (λ c. search needs) (λ c. search needs) returns returns-2)

@@ -10,19 +10,10 @@ use borrow.Author.Needs.{needs}
 use Rattle.listing.proofs.printing.print.Statement.{statement}
 use Rattle.listing.proofs.printing.print.Tie as tie
 
-slice-aggregate-settle : tie.Need-slice-aggregate-settle
-slice-aggregate-settle c = search needs
-
-settle-requires : tie.Need-settle-requires
-settle-requires c κs = search needs
-
-slice-aggregate-put-passed : tie.Need-slice-aggregate-put-passed
-slice-aggregate-put-passed c = search needs
-
 put-passed-requires : tie.Need-put-passed-requires
 put-passed-requires c κs =
     let s = c .before .before .before .settle .ensures in
-    settled-prints _ _ _ _ refl (s .0) (s .1)
+    settled-prints _ _ _ _ refl s
 
 returns : tie.Need-returns
 returns c =
@@ -30,14 +21,7 @@ returns c =
     let s = c .before .before .before .before .settle .ensures in
     let l : length (a .out .now) ≡ 40802 = search needs in
     in-slice _ (a .out .now) _ (listOf (a .text .now)) _ (c .put-passed .ensures .0) (passed-within 40802 _ _ _ _ _ (omega arith, l))
-    (settled-list _ _ _ _ refl (s .0) (s .1) _ refl l (c .put-passed .ensures .1))
+    (settled-list _ _ _ _ refl s _ refl l (c .put-passed .ensures .1))
 
 pub print-spec : {M : Type 1} → statement M
-print-spec =
-    tie.close
-    (tie.spec
-    slice-aggregate-settle
-    settle-requires
-    slice-aggregate-put-passed
-    put-passed-requires
-    returns)
+print-spec = tie.close (tie.spec (λ c. search needs) (λ c κs. search needs) (λ c. search needs) put-passed-requires returns)

@@ -1,3 +1,4 @@
+-- `records::grids::grid_fits` meets its contract. Assumes nothing.
 use Rattle.records.specs.Records.{gridFits}
 use borrow.Author.Needs.{needs}
 use Rattle.records.proofs.grids.grid_fits.Statement.{statement}

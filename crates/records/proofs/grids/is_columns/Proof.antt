@@ -1,3 +1,4 @@
+-- `records::grids::is_columns` meets its contract. Assumes nothing.
 use borrow.Author.Needs.{needs}
 use Rattle.records.specs.Records.{isColumns}
 use Rattle.records.proofs.grids.is_columns.Statement.{statement}

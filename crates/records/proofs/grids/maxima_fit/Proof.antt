@@ -1,3 +1,4 @@
+-- `records::grids::maxima_fit` meets its contract. Assumes nothing.
 use borrow.Author.Needs.{needs}
 use Rattle.records.specs.Records.{maximaFit}
 use Rattle.records.proofs.grids.maxima_fit.Statement.{statement}

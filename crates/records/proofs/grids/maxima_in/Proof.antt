@@ -1,3 +1,4 @@
+-- `records::grids::maxima_in` meets its contract. Assumes nothing.
 use borrow.Author.Needs.{needs}
 use Rattle.records.specs.Records.{maximaIn}
 use Rattle.records.proofs.grids.maxima_in.Statement.{statement}

@@ -1,3 +1,4 @@
+-- `records::grids::options_in` meets its contract. Assumes nothing.
 use borrow.Author.Needs.{needs}
 use Rattle.records.specs.Records.{optionsIn}
 use Rattle.records.proofs.grids.options_in.Statement.{statement}

@@ -1,3 +1,4 @@
+-- `records::headings::has_grid` meets its contract. Assumes nothing.
 use Rattle.records.proofs.Places.{grid-there}
 use borrow.Author.Needs.{needs}
 use Rattle.records.proofs.headings.has_grid.Statement.{statement}

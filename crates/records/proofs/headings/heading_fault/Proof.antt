@@ -1,3 +1,4 @@
+-- `records::headings::heading_fault` meets its contract. Assumes nothing.
 use Rattle.records.proofs.HeadingFaults.{no-heading, no-options, all-fit}
 use borrow.Author.Needs.{needs}
 use Rattle.records.proofs.headings.heading_fault.Statement.{statement}

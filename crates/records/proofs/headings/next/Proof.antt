@@ -1,3 +1,4 @@
+-- `records::headings::next` meets its contract. Assumes nothing.
 use borrow.Author.Needs.{needs}
 use Rattle.records.proofs.headings.next.Statement.{statement}
 use Rattle.records.proofs.headings.next.Tie as tie

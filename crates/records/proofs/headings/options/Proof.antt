@@ -1,3 +1,4 @@
+-- `records::headings::options` meets its contract. Assumes nothing.
 use mathlib.Core.Path.{ap, _∙_}
 use native.Mathlib.Omega.{arith}
 use Rattle.records.specs.Records.{optionsIn}

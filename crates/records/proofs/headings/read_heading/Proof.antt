@@ -1,3 +1,4 @@
+-- `records::headings::read_heading` meets its contract. Assumes nothing.
 use Rattle.records.specs.Headings.{headingIn}
 use borrow.Author.Needs.{needs}
 use Rattle.records.proofs.headings.read_heading.Statement.{statement}

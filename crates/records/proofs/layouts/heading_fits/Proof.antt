@@ -1,3 +1,4 @@
+-- `records::layouts::heading_fits` meets its contract. Assumes nothing.
 use Rattle.records.specs.Records.{headingFits}
 use borrow.Author.Needs.{needs}
 use Rattle.records.proofs.layouts.heading_fits.Statement.{statement}

@@ -1,3 +1,4 @@
+-- `records::layouts::layout_fits` meets its contract. Assumes nothing.
 use borrow.Author.Needs.{needs}
 use Rattle.records.specs.Records.{layoutFits}
 use Rattle.records.proofs.layouts.layout_fits.Statement.{statement}

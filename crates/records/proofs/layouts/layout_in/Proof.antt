@@ -1,3 +1,4 @@
+-- `records::layouts::layout_in` meets its contract. Assumes nothing.
 use borrow.Author.Needs.{needs}
 use Rattle.records.specs.Records.{layoutIn}
 use Rattle.records.proofs.layouts.layout_in.Statement.{statement}

@@ -1,3 +1,4 @@
+-- `records::layouts::pair_fits` meets its contract. Assumes nothing.
 use borrow.Author.Needs.{needs}
 use Rattle.records.specs.Records.{pairFits}
 use Rattle.records.proofs.layouts.pair_fits.Statement.{statement}

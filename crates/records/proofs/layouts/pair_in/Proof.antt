@@ -1,3 +1,4 @@
+-- `records::layouts::pair_in` meets its contract. Assumes nothing.
 use borrow.Author.Needs.{needs}
 use Rattle.records.specs.Records.{pairIn}
 use Rattle.records.proofs.layouts.pair_in.Statement.{statement}

@@ -1,3 +1,4 @@
+-- `records::layouts::rect_in` meets its contract. Assumes nothing.
 use borrow.Author.Needs.{needs}
 use Rattle.records.specs.Records.{rectIn}
 use Rattle.records.proofs.layouts.rect_in.Statement.{statement}

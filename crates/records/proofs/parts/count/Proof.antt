@@ -1,3 +1,4 @@
+-- `records::parts::count` meets its contract. Assumes nothing.
 use borrow.Author.Needs.{needs}
 use Rattle.records.specs.Parts.{countIn}
 use Rattle.records.proofs.parts.count.Statement.{statement}

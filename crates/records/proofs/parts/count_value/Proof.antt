@@ -1,3 +1,4 @@
+-- `records::parts::count_value` meets its contract. Assumes nothing.
 use borrow.Author.Needs.{needs}
 use Rattle.records.specs.Parts.{countValue}
 use Rattle.records.proofs.parts.count_value.Statement.{statement}

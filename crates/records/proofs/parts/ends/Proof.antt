@@ -1,3 +1,4 @@
+-- `records::parts::ends` meets its contract. Assumes nothing.
 use borrow.Author.Needs.{needs}
 use Rattle.records.specs.Parts.{ends}
 use Rattle.records.proofs.parts.ends.Statement.{statement}

@@ -1,3 +1,4 @@
+-- `records::parts::is_count` meets its contract. Assumes nothing.
 use borrow.Author.Needs.{needs}
 use Rattle.records.specs.Parts.{isCount}
 use Rattle.records.proofs.parts.is_count.Statement.{statement}

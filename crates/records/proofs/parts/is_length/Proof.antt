@@ -1,3 +1,4 @@
+-- `records::parts::is_length` meets its contract. Assumes nothing.
 use borrow.Author.Needs.{needs}
 use Rattle.records.specs.Parts.{isLength}
 use Rattle.records.proofs.parts.is_length.Statement.{statement}

@@ -1,3 +1,4 @@
+-- `records::parts::is_maximum` meets its contract. Assumes nothing.
 use borrow.Author.Needs.{needs}
 use Rattle.records.specs.Parts.{isMaximum}
 use Rattle.records.proofs.parts.is_maximum.Statement.{statement}

@@ -1,3 +1,4 @@
+-- `records::parts::length` meets its contract. Assumes nothing.
 use borrow.Author.Needs.{needs}
 use mathlib.Core.Path.{_≡_}
 use mir.Val.{toZ, ofZ}

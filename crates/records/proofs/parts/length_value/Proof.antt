@@ -1,3 +1,4 @@
+-- `records::parts::length_value` meets its contract. Assumes nothing.
 use borrow.Author.Needs.{needs}
 use Rattle.records.specs.Parts.{lengthValue}
 use Rattle.records.proofs.parts.length_value.Statement.{statement}

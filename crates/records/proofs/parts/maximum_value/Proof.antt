@@ -1,3 +1,4 @@
+-- `records::parts::maximum_value` meets its contract. Assumes nothing.
 use borrow.Author.Needs.{needs}
 use Rattle.records.specs.Parts.{maximumValue}
 use Rattle.records.proofs.parts.maximum_value.Statement.{statement}

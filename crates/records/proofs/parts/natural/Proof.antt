@@ -1,3 +1,4 @@
+-- `records::parts::natural` meets its contract. Assumes nothing.
 use mir.ValLaws.{toZ-ofZ}
 use mir.Syntax.{w32}
 use lib.IntN.{ℤ, pos}

@@ -1,3 +1,4 @@
+-- `records::parts::points` meets its contract. Assumes nothing.
 use mir.ValLaws.{toZ-ofZ}
 use mir.Syntax.{w32}
 use Rattle.records.proofs.Lengths.{casts, divided}

@@ -1,3 +1,4 @@
+-- `records::records::first_record` meets its contract. Assumes nothing.
 use borrow.Author.Tests.{ne-eqb}
 use Rattle.records.specs.Records.{recordOf}
 use borrow.Author.Needs.{needs}

@@ -1,3 +1,4 @@
+-- `records::records::next_record` meets its contract. Assumes nothing.
 use borrow.Author.Needs.{needs}
 use Rattle.records.proofs.Places.{next-beyond, next-short, next-there}
 use Rattle.records.proofs.records.next_record.Statement.{statement}

@@ -1,3 +1,4 @@
+-- `records::records::read_record` meets its contract. Assumes nothing.
 use borrow.Author.Needs.{needs}
 use Rattle.records.proofs.Places.{beyond, there}
 use Rattle.records.proofs.records.read_record.Statement.{statement}

@@ -1,3 +1,4 @@
+-- `records::records::single` meets its contract. Assumes nothing.
 use borrow.Author.Tests.{ne-eqb}
 use borrow.Author.Needs.{needs}
 use Rattle.records.specs.Records.{singleRecord}

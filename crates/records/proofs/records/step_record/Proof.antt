@@ -1,3 +1,4 @@
+-- `records::records::step_record` meets its contract. Assumes nothing.
 use borrow.Author.Needs.{needs}
 use Rattle.records.specs.Records.{stepRecord}
 use Rattle.records.proofs.records.step_record.Statement.{statement}

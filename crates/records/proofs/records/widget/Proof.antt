@@ -1,3 +1,4 @@
+-- `records::records::widget` meets its contract. Assumes nothing.
 use borrow.Author.Needs.{needs}
 use Rattle.records.specs.Records.{widgetRecord}
 use Rattle.records.proofs.records.widget.Statement.{statement}

@@ -1,15 +1,13 @@
+-- `records::sheets::ended` meets its contract. Assumes nothing.
 use borrow.Author.Tests.{le-ltb, lt-ltb}
 use borrow.Author.Needs.{needs}
-use Rattle.records.specs.Sheets.{sized}
 use Rattle.records.proofs.sheets.ended.Statement.{statement}
 use Rattle.records.proofs.sheets.ended.Tie as tie
 
 returns : tie.Need-returns
-unfolding sized
 returns c = rw (lt-ltb _ _ (c .if1 .taken))
 
 returns-2 : tie.Need-returns-2
-unfolding sized
 returns-2 c = rw (le-ltb _ _ (c .if1 .left))
 
 pub ended-spec : {M : Type 1} → statement M

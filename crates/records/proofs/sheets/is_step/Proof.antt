@@ -1,4 +1,5 @@
-use Rattle.records.specs.Implementation.Keeping.{isStep}
+-- `records::sheets::is_step` meets its contract. Assumes nothing.
+use Rattle.records.specs.Implementation.SizeCache.{isStep}
 use borrow.Author.Needs.{needs}
 use Rattle.records.proofs.sheets.is_step.Statement.{statement}
 use Rattle.records.proofs.sheets.is_step.Tie as tie

@@ -1,3 +1,4 @@
+-- `records::sheets::widget` meets its contract. Assumes nothing.
 use Rattle.records.specs.Sheets.{widget}
 use borrow.Author.Needs.{needs}
 use Rattle.records.proofs.sheets.widget.Statement.{statement}

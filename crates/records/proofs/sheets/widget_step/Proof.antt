@@ -1,3 +1,4 @@
+-- `records::sheets::widget_step` meets its contract. Assumes nothing.
 use borrow.Author.Needs.{needs}
 use Rattle.records.specs.Sheets.{widgetStep}
 use Rattle.records.proofs.sheets.widget_step.Statement.{statement}

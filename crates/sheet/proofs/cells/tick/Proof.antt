@@ -1,3 +1,4 @@
+-- `sheet::cells::tick` meets its contract. Assumes nothing.
 use Rattle.sheet.proofs.Ticking.{casts, counted-in-ticks}
 use Rattle.sheet.proofs.cells.tick.Statement.{statement}
 use Rattle.sheet.proofs.cells.tick.Tie as tie

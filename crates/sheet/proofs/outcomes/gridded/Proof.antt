@@ -1,3 +1,4 @@
+-- `sheet::outcomes::gridded` meets its contract. Assumes nothing.
 use borrow.Author.Needs.{needs}
 use Rattle.sheet.specs.Pass.{gridded, gridOf}
 use Rattle.sheet.proofs.outcomes.gridded.Statement.{statement}

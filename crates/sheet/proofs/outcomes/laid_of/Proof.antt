@@ -1,3 +1,4 @@
+-- `sheet::outcomes::laid_of` meets its contract. Assumes nothing.
 use borrow.Author.Tests.{eq-eqb, ne-eqb}
 use Rattle.sheet.specs.Slices.{laidOf}
 use Rattle.sheet.proofs.outcomes.laid_of.Statement.{statement}

@@ -1,3 +1,4 @@
+-- `sheet::outcomes::refused` meets its contract. Assumes nothing.
 use borrow.Author.Needs.{needs}
 use Rattle.sheet.proofs.outcomes.refused.Statement.{statement}
 use Rattle.sheet.proofs.outcomes.refused.Tie as tie

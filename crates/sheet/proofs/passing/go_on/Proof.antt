@@ -13,7 +13,7 @@ sub-walk-from c = omega (arith, c .before .before .before .before .pre .1 .few)
 walk-from-requires : tie.Need-walk-from-requires
 walk-from-requires c κs =
     let r = c .before .before .before .before .before .pre .1 in
-    (c .before .before .before .before .before .pre .0, ((r .begins, omega (arith, r .few)), (r .only, r .fits, r .places, r .kept)))
+    (c .before .before .before .before .before .pre .0, ((r .begins, omega (arith, r .few)), (r .only, r .fits, r .places, r .cached)))
 
 returns : tie.Need-returns
 returns c = c .before .walk-from .ensures

@@ -6,9 +6,9 @@ use lib.ListN.{length, drop}
 use Rattle.placer.specs.Implementation.Lent.{placerOf}
 use Rattle.records.specs.Sheets.{recordsFrom, widgets}
 use Rattle.records.specs.declared.Record.{Record}
-use Rattle.records.specs.Implementation.Keeping.{Kept}
+use Rattle.records.specs.Implementation.SizeCache.{AreCached}
 use Rattle.records.proofs.Places.{next-within}
-use Rattle.records.proofs.Keeping.{kept-here, kept-next}
+use Rattle.records.proofs.SizeCache.{cached-here, still-cached}
 use Rattle.sheet.specs.Implementation.Calls.{recordMoved, Ready}
 use Rattle.sheet.proofs.Walks.{walked}
 use Rattle.sheet.proofs.WalkedRuns.{as-walked}
@@ -22,7 +22,7 @@ Inv-loop text sizes from first most placer pw ph ws₀ hs₀ spacing out₀ s₀
     (length out ≡ length out₀) × (at ≤ length text) × (n + left ≡ first + most) × (8 * (w + widgets (recordsFrom left (drop at text))) ≤ length out)
     × Ready placer s pw ph ws hs
     × (walked left spacing n (placerOf placer s pw ph ws hs) (drop at text) out w ≡ walked most spacing first (placerOf placer s₀ pw ph ws₀ hs₀) (drop from text) out₀ 0)
-    × Kept left (drop at text) sizes n
+    × AreCached left (drop at text) sizes n
 
 abbrev μ-loop : tie.MeasureT-loop
 μ-loop text sizes from first most placer pw ph ws₀ hs₀ spacing out₀ s₀ at₀ n₀ w₀ left₀ ws hs out s at n w left = left
@@ -36,11 +36,11 @@ returns c =
     let p = placerOf (a .placer) (l .s) pw ph (l .widths) (l .heights) in
     as-walked _ _ _ _ _ _ _ _ (c .before .before .before .before .before .before .before .before .before .pre .1 .1 .0) (walk-ends (a .text .now) (a .spacing) (l .left) (l .n) (l .at) (l .w) p (l .out) _ (l .inv .5) (c .if1 .taken))
 
-kept-record-requires : tie.Need-kept-record-requires Inv-loop μ-loop
-kept-record-requires c κs =
+cached-record-requires : tie.Need-cached-record-requires Inv-loop μ-loop
+cached-record-requires c κs =
     let a = c .before .before .before .before .before .before .before .before .before .before .before in
     let l = c .before .before .before .before .loop in
-    ((omega (arith, l .inv .2, c .before .before .before .loop-test .taken, a .pre .1 .0 .1), a .pre .1 .1 .2), kept-here (a .args .text .now) (a .args .sizes .now) (l .at) (l .n) (l .left) (l .inv .6) (c .before .before .before .loop-test .taken) (c .before .before .if1 .left))
+    ((omega (arith, l .inv .2, c .before .before .before .loop-test .taken, a .pre .1 .0 .1), a .pre .1 .1 .2), cached-here (a .args .text .now) (a .args .sizes .now) (l .at) (l .n) (l .left) (l .inv .6) (c .before .before .before .loop-test .taken) (c .before .before .if1 .left))
 
 record-moved-requires : tie.Need-record-moved-requires Inv-loop μ-loop
 record-moved-requires c κs = c .before .before .before .before .before .loop .inv .4
@@ -58,7 +58,7 @@ returns-2 c =
     let pw = a .prev-widths .now in
     let ph = a .prev-heights .now in
     let p = placerOf (a .placer) (l .s) pw ph (l .widths) (l .heights) in
-    let em = c .before .before .before .before .before .before .record-moved .ensures ∙ ap (λ (x : Record). recordMoved p (a .spacing) x) (c .before .before .before .before .before .before .before .kept-record .ensures) in
+    let em = c .before .before .before .before .before .before .record-moved .ensures ∙ ap (λ (x : Record). recordMoved p (a .spacing) x) (c .before .before .before .before .before .before .before .cached-record .ensures) in
     as-walked _ _ _ _ _ _ _ _ (c .before .before .before .before .before .before .before .before .before .before .before .before .before .before .before .before .before .before .before .pre .1 .1 .0) (walk-stops (a .text .now) (a .spacing) (l .left) (l .n) (l .at) (l .w) p (l .out) _ (l .inv .5) (c .before .before .before .before .before .before .before .before .before .before .before .loop-test .taken) (c .before .before .before .before .before .before .before .before .before .before .if1 .left) _ em (c .if2 .taken))
 
 put-requires : tie.Need-put-requires Inv-loop μ-loop
@@ -68,7 +68,7 @@ put-requires c κs =
     let pw = a .prev-widths .now in
     let ph = a .prev-heights .now in
     let p = placerOf (a .placer) (l .s) pw ph (l .widths) (l .heights) in
-    let em = c .before .before .before .before .before .before .before .record-moved .ensures ∙ ap (λ (x : Record). recordMoved p (a .spacing) x) (c .before .before .before .before .before .before .before .before .kept-record .ensures) in
+    let em = c .before .before .before .before .before .before .before .record-moved .ensures ∙ ap (λ (x : Record). recordMoved p (a .spacing) x) (c .before .before .before .before .before .before .before .before .cached-record .ensures) in
     let r = room-left (a .text .now) (a .spacing) (l .left) (l .n) (l .at) (l .w) p (l .out) _ (l .inv .5) (c .before .before .before .before .before .before .before .before .before .before .before .before .loop-test .taken) (c .before .before .before .before .before .before .before .before .before .before .before .if1 .left) _ em (l .inv .3) in
     ((omega (arith, r), moved-few (a .text .now) (a .spacing) (l .left) (l .n) (l .at) (l .w) p (l .out) _ (l .inv .5) (c .before .before .before .before .before .before .before .before .before .before .before .before .loop-test .taken) (c .before .before .before .before .before .before .before .before .before .before .before .if1 .left) _ em), moved-in-ticks (a .text .now) (a .spacing) (l .left) (l .n) (l .at) (l .w) p (l .out) _ (l .inv .5) (c .before .before .before .before .before .before .before .before .before .before .before .before .loop-test .taken) (c .before .before .before .before .before .before .before .before .before .before .before .if1 .left) _ em (c .before .if2 .left))
 
@@ -88,12 +88,12 @@ loop-again c =
     let pw = a .prev-widths .now in
     let ph = a .prev-heights .now in
     let p = placerOf (a .placer) (l .s) pw ph (l .widths) (l .heights) in
-    let em = c .before .before .before .before .before .before .before .before .before .before .record-moved .ensures ∙ ap (λ (x : Record). recordMoved p (a .spacing) x) (c .before .before .before .before .before .before .before .before .before .before .before .kept-record .ensures) in
+    let em = c .before .before .before .before .before .before .before .before .before .before .record-moved .ensures ∙ ap (λ (x : Record). recordMoved p (a .spacing) x) (c .before .before .before .before .before .before .before .before .before .before .before .cached-record .ensures) in
     let e = c .next-record .ensures in
     let u = c .before .before .put .ensures in
     let k = c .before .before .put .kept .0 in
     let r = room-left (a .text .now) (a .spacing) (l .left) (l .n) (l .at) (l .w) p (l .out) _ (l .inv .5) (c .before .before .before .before .before .before .before .before .before .before .before .before .before .before .before .loop-test .taken) (c .before .before .before .before .before .before .before .before .before .before .before .before .before .before .if1 .left) _ em (l .inv .3) in
-    (k ∙ l .inv .0, rw e (next-within (a .text .now) (l .at)), omega (arith, l .inv .2, c .before .before .before .before .before .before .before .before .before .before .before .before .before .before .before .loop-test .taken), rw (e, u .0) (omega (arith, r, k)), record { none = moved-unfaulted (a .text .now) (a .spacing) (l .left) (l .n) (l .at) (l .w) p (l .out) _ (l .inv .5) (c .before .before .before .before .before .before .before .before .before .before .before .before .before .before .before .loop-test .taken) (c .before .before .before .before .before .before .before .before .before .before .before .before .before .before .if1 .left) _ em (c .before .before .before .before .if2 .left); cols = c .before .before .before .before .before .before .before .before .before .before .record-moved .kept .1 .1 .1 .1 .0 ∙ l .inv .4 .cols; rows = c .before .before .before .before .before .before .before .before .before .before .record-moved .kept .1 .1 .1 .1 .1 .0 ∙ l .inv .4 .rows }, rw (e, u .0, u .1) (walk-goes-on (a .text .now) (a .spacing) (l .left) (l .n) (l .at) (l .w) p (l .out) _ (l .inv .5) (c .before .before .before .before .before .before .before .before .before .before .before .before .before .before .before .loop-test .taken) (c .before .before .before .before .before .before .before .before .before .before .before .before .before .before .if1 .left) _ em (c .before .before .before .before .if2 .left)), rw e (kept-next (a .text .now) (a .sizes .now) (l .at) (l .n) (l .left) (l .inv .6)))
+    (k ∙ l .inv .0, rw e (next-within (a .text .now) (l .at)), omega (arith, l .inv .2, c .before .before .before .before .before .before .before .before .before .before .before .before .before .before .before .loop-test .taken), rw (e, u .0) (omega (arith, r, k)), record { none = moved-unfaulted (a .text .now) (a .spacing) (l .left) (l .n) (l .at) (l .w) p (l .out) _ (l .inv .5) (c .before .before .before .before .before .before .before .before .before .before .before .before .before .before .before .loop-test .taken) (c .before .before .before .before .before .before .before .before .before .before .before .before .before .before .if1 .left) _ em (c .before .before .before .before .if2 .left); cols = c .before .before .before .before .before .before .before .before .before .before .record-moved .kept .1 .1 .1 .1 .0 ∙ l .inv .4 .cols; rows = c .before .before .before .before .before .before .before .before .before .before .record-moved .kept .1 .1 .1 .1 .1 .0 ∙ l .inv .4 .rows }, rw (e, u .0, u .1) (walk-goes-on (a .text .now) (a .spacing) (l .left) (l .n) (l .at) (l .w) p (l .out) _ (l .inv .5) (c .before .before .before .before .before .before .before .before .before .before .before .before .before .before .before .loop-test .taken) (c .before .before .before .before .before .before .before .before .before .before .before .before .before .before .if1 .left) _ em (c .before .before .before .before .if2 .left)), rw e (still-cached (a .text .now) (a .sizes .now) (l .at) (l .n) (l .left) (l .inv .6)))
 
 returns-3 : tie.Need-returns-3 Inv-loop μ-loop
 returns-3 c =
@@ -105,4 +105,4 @@ returns-3 c =
     as-walked _ _ _ _ _ _ _ _ (c .before .before .before .before .before .before .before .before .pre .1 .1 .0) (walk-is-full (a .text .now) (a .spacing) (l .left) (l .n) (l .at) (l .w) p (l .out) _ (l .inv .5) (c .loop-test .left))
 
 pub run-spec : {M : Type 1} → statement M
-run-spec = tie.close (tie.spec Inv-loop μ-loop (λ c. search needs) (λ c. search needs) (λ c. search needs) (λ c. search needs) returns kept-record-requires record-moved-requires same-length-4 same-length-5 (λ c. search needs) returns-2 put-requires (λ c κs. search needs) add-n sub-left loop-less loop-again (λ c. search needs) (λ c. search needs) (λ c. search needs) returns-3)
+run-spec = tie.close (tie.spec Inv-loop μ-loop (λ c. search needs) (λ c. search needs) (λ c. search needs) (λ c. search needs) returns cached-record-requires record-moved-requires same-length-4 same-length-5 (λ c. search needs) returns-2 put-requires (λ c κs. search needs) add-n sub-left loop-less loop-again (λ c. search needs) (λ c. search needs) (λ c. search needs) returns-3)

@@ -96,7 +96,3 @@ Printable p = printable (p .laid) p
 unfoldable pub putPassed : Laid → List ℕ → List ℤ → Passed → Put → Put
 putPassed laid-of.Accepted text cells p at = putAccepted text cells (p .plate) (p .memory) at
 putPassed (laid-of.Refused number n) text cells p at = putLine letters.X (pos number ∷ pos n ∷ []) at
-
-unfoldable pub numberOf : Laid → ℕ
-numberOf laid-of.Accepted = 0
-numberOf (laid-of.Refused number at) = number

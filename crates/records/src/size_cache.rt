@@ -1,4 +1,4 @@
-// What each W says, kept by the number of its record when a sheet is checked, so that it is read once.
+// A cache of W sizes by the number of the record: filled when a sheet is checked, so that each W is read once.
 use crate::Record;
 use crate::Step;
 use crate::parts::byte;
@@ -7,9 +7,9 @@ ghost use mathlib.Core.Path.{_≡_};
 ghost use Prim.Native.Nat.{_+_, _≤_};
 ghost use lib.ListN.{length, drop};
 ghost use Rattle.records.specs.Records.{recordAt};
-ghost use Rattle.records.specs.Implementation.Keeping.{storedStep, stored, Says};
+ghost use Rattle.records.specs.Implementation.SizeCache.{storedStep, stored, IsCached};
 
-// The heights come after all the widths. Side by side, a record's two would be read at once where each was just written alone, and that waits.
+// The heights come after all the widths. Side by side, a record's two would be read by one load, which would wait for store forwarding of two narrower stores.
 const HEIGHTS: usize = 513;
 
 fn store_step(sizes: &mut [f32], n: usize, st: Step)
@@ -31,7 +31,7 @@ fn store_step(sizes: &mut [f32], n: usize, st: Step)
     }
 }
 
-// What record n says, where it is a W.
+// The size that record n gives, where it is a W.
 pub fn store(sizes: &mut [f32], n: usize, r: Record)
     requires { ⌜ (n ≤ 512) × (length (now sizes) ≡ 1026) ⌝ }
     ensures { λ _. ⌜ now (sizes .exit) ≡ stored (now (sizes .entry)) n r ⌝ }
@@ -42,10 +42,10 @@ pub fn store(sizes: &mut [f32], n: usize, r: Record)
     }
 }
 
-// The record at a place, which is record n: only one that is no W is read again.
-pub fn kept_record(text: &[u8], at: usize, sizes: &[f32], n: usize) -> Record
+// The record at a place, which is record n: a W from the cache, any other read again.
+pub fn cached_record(text: &[u8], at: usize, sizes: &[f32], n: usize) -> Record
     requires { ⌜ (n ≤ 512) × (length (now sizes) ≡ 1026) ⌝ }
-    requires { ⌜ Says (drop at (now text)) (now sizes) n ⌝ }
+    requires { ⌜ IsCached (drop at (now text)) (now sizes) n ⌝ }
     ensures { λ r. ⌜ r ≡ recordAt (now (text .entry)) at ⌝ }
 {
     if byte(text, at) == b'W' {

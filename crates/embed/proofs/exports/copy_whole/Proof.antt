@@ -1,10 +1,11 @@
+-- `embed::exports::copy_whole` meets its contract. Assumes nothing.
 use native.Mathlib.Omega.{arith}
 use Prim.Native.Nat.{_≤_}
 use lib.ListN.{length, take, length-take}
 use Rattle.embed.proofs.Copied.{copied, left}
 use borrow.Author.Needs.{needs}
-use Rattle.embed.proofs.handing.copy_whole.Statement.{statement}
-use Rattle.embed.proofs.handing.copy_whole.Tie as tie
+use Rattle.embed.proofs.exports.copy_whole.Statement.{statement}
+use Rattle.embed.proofs.exports.copy_whole.Tie as tie
 
 slice-aggregate-copy : tie.Need-slice-aggregate-copy
 slice-aggregate-copy c = simp length-take (omega arith)
@@ -14,9 +15,6 @@ copy-requires c κs =
     let a = c .before .before .before .before .before .args in
     let h : length (take (a .n) (a .from .now)) ≤ length (a .out .now) = simp length-take (omega arith) in
     h
-
-same-length : tie.Need-same-length
-same-length c = search needs
 
 returns : tie.Need-returns
 returns c =
@@ -29,5 +27,4 @@ returns-2 c =
     left (a .n) (a .from .now) (a .out .now) (c .if1 .left)
 
 pub copy-whole-spec : {M : Type 1} → statement M
-copy-whole-spec =
-    tie.close (tie.spec slice-aggregate-copy copy-requires same-length returns returns-2)
+copy-whole-spec = tie.close (tie.spec slice-aggregate-copy copy-requires (λ c. search needs) returns returns-2)

@@ -1,8 +1,8 @@
--- `records::kept::store` meets its contract. Assumes nothing.
-use Rattle.records.specs.Implementation.Keeping.{stored}
+-- `records::size_cache::store` meets its contract. Assumes nothing.
+use Rattle.records.specs.Implementation.SizeCache.{stored}
 use borrow.Author.Needs.{needs}
-use Rattle.records.proofs.kept.store.Statement.{statement}
-use Rattle.records.proofs.kept.store.Tie as tie
+use Rattle.records.proofs.size_cache.store.Statement.{statement}
+use Rattle.records.proofs.size_cache.store.Tie as tie
 
 returns : tie.Need-returns
 unfolding stored

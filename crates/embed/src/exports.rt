@@ -14,9 +14,8 @@ ghost use lib.Seq.{sets};
 ghost use Rattle.emath.specs.Steps.{tick};
 ghost use Rattle.region.specs.Steps.{WholeRect};
 ghost use Rattle.sheet.specs.Ticks.{inTicks};
-ghost use Rattle.sheet.specs.Slices.{edges};
+ghost use Rattle.sheet.specs.Slices.{edges, laidNumber, laidRecord};
 ghost use Rattle.embed.specs.Calls.{memoryOf};
-ghost use Rattle.embed.specs.Implementation.Handing.{numberOf, recordOf};
 
 pub(crate) fn memory_of(
     widths: &[f32; 32],
@@ -67,7 +66,7 @@ fn put_plate(plate: &mut [i32; 4], rect: Rect)
 
 // The number and the record, 0 and 0 where the pass is accepted.
 fn put_laid(at: &mut usize, laid: Laid) -> u8
-    ensures { λ n. ⌜ (n ≡ numberOf laid) × (now (at .exit) ≡ recordOf laid) ⌝ }
+    ensures { λ n. ⌜ (n ≡ laidNumber laid) × (now (at .exit) ≡ laidRecord laid) ⌝ }
 {
     match laid {
         Laid::Accepted => {
@@ -91,7 +90,7 @@ pub(crate) fn put_passed(
     p: Passed,
 ) -> u8
     requires { ⌜ WholeRect tick (p .plate) ⌝ }
-    ensures { λ n. ⌜ ((n ≡ numberOf (p .laid)) × (now (at .exit) ≡ recordOf (p .laid))) × ((now (plate .exit) ≡ edges (inTicks tick (p .plate))) × (memoryOf (now (widths .exit)) (now (cols .exit)) (now (heights .exit)) (now (rows .exit)) ≡ p .memory)) ⌝ }
+    ensures { λ n. ⌜ ((n ≡ laidNumber (p .laid)) × (now (at .exit) ≡ laidRecord (p .laid))) × ((now (plate .exit) ≡ edges (inTicks tick (p .plate))) × (memoryOf (now (widths .exit)) (now (cols .exit)) (now (heights .exit)) (now (rows .exit)) ≡ p .memory)) ⌝ }
 {
     put_plate(plate, p.plate);
     let memory = p.memory;

@@ -1,19 +1,8 @@
+-- `embed::exports::put_plate` meets its contract. Assumes nothing.
 use Rattle.text.proofs.Signs.{Same}
 use borrow.Author.Needs.{needs}
-use Rattle.embed.proofs.handing.put_plate.Statement.{statement}
-use Rattle.embed.proofs.handing.put_plate.Tie as tie
-
-tick-requires : tie.Need-tick-requires
-tick-requires c κs = search needs
-
-tick-requires-2 : tie.Need-tick-requires-2
-tick-requires-2 c κs = search needs
-
-tick-requires-3 : tie.Need-tick-requires-3
-tick-requires-3 c κs = search needs
-
-tick-requires-4 : tie.Need-tick-requires-4
-tick-requires-4 c κs = search needs
+use Rattle.embed.proofs.exports.put_plate.Statement.{statement}
+use Rattle.embed.proofs.exports.put_plate.Tie as tie
 
 returns : tie.Need-returns
 returns c =
@@ -24,5 +13,4 @@ returns c =
     rw (e1, e2, e3, e4, c .before .before .before .tick .ensures, c .before .before .tick2 .ensures, c .before .tick3 .ensures, c .tick4 .ensures)
 
 pub put-plate-spec : {M : Type 1} → statement M
-put-plate-spec =
-    tie.close (tie.spec tick-requires tick-requires-2 tick-requires-3 tick-requires-4 returns)
+put-plate-spec = tie.close (tie.spec (λ c κs. search needs) (λ c κs. search needs) (λ c κs. search needs) (λ c κs. search needs) returns)

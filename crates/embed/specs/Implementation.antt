@@ -1,2 +1,0 @@
--- How the code takes an answer apart. Not part of the specification.
-pub mod Handing

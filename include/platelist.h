@@ -1,7 +1,8 @@
 /* platelist.h: lays out a sheet from bytes into the caller's memory.
  *
  * Link target/staticlib/libembed.a, which `rt staticlib embed` proves and writes, for x86-64 Linux.
- * docs/SHEETS.md says how a sheet is written, examples/embed has a program in C and one in Rust.
+ * docs/SHEETS.md says how a sheet is written; examples/embed has three programs in C, two of them in
+ * Rust too.
  * What is said below of answers, their bounds and contents is promised by the calls' contracts, which
  * are proved for all arguments (crates/embed: src/lib.rt, specs/Calls.antt).
  *
@@ -55,8 +56,8 @@ extern "C" {
 #define PLATELIST_STACK 131072
 
 /* What platelist_pass and platelist_settle answer: PLATELIST_ACCEPTED, or why the sheet is refused.
- * The numbers are looked for in rising order: 1 to 3 over the whole sheet, the others record by
- * record. */
+ * 1, then 2, then 3 are looked for over the whole sheet before anything is laid out, the others
+ * record by record: of the first record at fault the least that applies. */
 enum {
     PLATELIST_ACCEPTED = 0,
     PLATELIST_MALFORMED = 1,   /* a record is malformed, misplaced or out of range; no record at all */

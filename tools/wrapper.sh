@@ -49,7 +49,7 @@ build_program() {
     if [ -e "$built" ] && [ -z "$(find "$root/crates.txt" "$root"/crates/*/src -newer "$built" -print -quit)" ]; then return; fi
     if ! command -v rt >/dev/null; then wrong "$1 has to be built first, and there is no rt here: it needs the Rattle kit"; fi
     echo "$1 is proved and built first, which takes some minutes" >&2
-    # rt takes what it has proved as built: where only the program is gone, its stamp has to go too.
+    # By rt's build state what is proved is built: where only the program is gone, its stamp has to go too.
     [ -e "$built" ] || rm -f "$root/target/stamp/$1"
     (cd "$root" && tools/in_memory rt check "$1" </dev/null) >&2
     touch -c "$built"

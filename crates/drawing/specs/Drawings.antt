@@ -1,4 +1,4 @@
--- What is drawn: each element as its template, with the numbers of a line of the list and those of the page.
+-- RULES 7.10: what is drawn: each element as its template, with the numbers of a line of the list and those of the page.
 use Prim.Native.Nat.{ℕ, zero, suc, _+_, _-_, _*_, _/_, _%_}
 use mathlib.Core.Bool.{Bool, true, false, cond, _&&_, _||_}
 use mathlib.Core.List.{List, [], _∷_, _++_}
@@ -12,7 +12,7 @@ use Rattle.drawing.specs.declared.Layer.the-variants as layer-of
 use Rattle.drawing.specs.declared.Shared.{Shared}
 use Rattle.drawing.specs.declared.Shared.the-variants as shared-of
 
--- ---- controls
+-- ---- RULES 7.10: controls
 -- where the plate's line begins, and W line k
 abbrev pub plateAt : Page → ℕ
 plateAt p = 74 * p .widgets
@@ -31,7 +31,7 @@ down p s k = middle s (74 * k) 6 8 (placeOf s (plateAt p) 1)
 unfoldable pub covers : Page → List ℕ → ℕ → ℕ → ℕ → Bool
 covers p s k width height = leb width (px p (span s (74 * k) 5 7)) && leb height (px p (span s (74 * k) 6 8))
 
--- ---- what two controls share
+-- ---- RULES 7.10: what two controls share
 abbrev pub distance : ℕ → ℕ → ℕ
 distance a b = (a - b) + (b - a)
 
@@ -55,7 +55,7 @@ unfoldable pub seen : Shared → Page → List ℕ → ℕ → ℕ → Bool
 seen what p s zero k = false
 seen what p s (suc j) k = cond (shares what p s j k) true (seen what p s j k)
 
--- ---- lines, frames and controls, in ticks
+-- ---- RULES 7.10: lines, frames and controls, in ticks
 unfoldable pub columnLines : Page → List ℕ → ℕ → List (List ℕ)
 columnLines p s k = cond (seen shared-of.Column p s k k) [] (filled (ascii "<use href=\"#down\" x=\"$1\"/><use href=\"#down\" x=\"$3\"/>\n") s (74 * k) [])
 
@@ -75,7 +75,7 @@ control p s k =
 unfoldable pub outlines : Page → List ℕ → ℕ → List (List ℕ)
 outlines p s k = filled (ascii "<path class=\"frame\" d=\"M$1 $2H$3V$4H$1Z\"/>\n") s (74 * k) [] ++ control p s k
 
--- ---- the plate on the page
+-- ---- RULES 7.10: the plate on the page
 unfoldable pub window : Page → List ℕ → ℕ → List (List ℕ)
 window p s i =
     cond (p .wide)
@@ -94,7 +94,7 @@ captions p s i =
     (filled (ascii "<text class=\"row\" x=\"60\" y=\"~0\">from ~1 ticks on</text>\n") s 0 ((102 + i * p .pitch) ∷ (i * p .step) ∷ []))
     (filled (ascii "<text class=\"row\" x=\"~0\" y=\"102\">from ~1 ticks on</text>\n") s 0 ((60 + i * p .pitch) ∷ (i * p .step) ∷ []))
 
--- ---- labels
+-- ---- RULES 7.10: labels
 unfoldable pub labelAcross : Page → List ℕ → ℕ → ℕ
 labelAcross p s k = cond (p .wide) (60 + px p (across p s k % p .step)) (60 + px p (across p s k) + down p s k / p .step * p .pitch)
 
@@ -112,7 +112,7 @@ label p s k =
 unfoldable pub labels : Page → List ℕ → ℕ → List (List ℕ)
 labels p s k = cond (seen shared-of.Place p s k k) [] (label p s k)
 
--- ---- the list, below the picture
+-- ---- RULES 7.10: the list, below the picture
 unfoldable pub widgetRow : Page → List ℕ → ℕ → List (List ℕ)
 widgetRow p s k = filled (ascii "<text class=\"row\" xml:space=\"preserve\" x=\"~0\" y=\"~1\">W @0 @1 @2 @3 @4 @5 @6 @7 @8</text>\n") s (74 * k) (rowAcross p k ∷ rowDown p k ∷ [])
 
@@ -125,7 +125,7 @@ columnRow p s k = filled (ascii "<text class=\"row\" xml:space=\"preserve\" x=\"
 unfoldable pub rowRow : Page → List ℕ → ℕ → List (List ℕ)
 rowRow p s k = filled (ascii "<text class=\"row\" xml:space=\"preserve\" x=\"~0\" y=\"~1\">D @0 @1</text>\n") s (plateAt p + 34 + 18 * (p .columns + k)) ((rowAcross p (p .widgets + 1 + p .columns + k)) ∷ (rowDown p (p .widgets + 1 + p .columns + k)) ∷ [])
 
--- ---- layer by layer
+-- ---- RULES 7.10: layer by layer
 unfoldable pub one : Layer → Page → List ℕ → ℕ → List (List ℕ)
 one layer-of.ColumnLines p s i = columnLines p s i
 one layer-of.RowLines p s i = rowLines p s i

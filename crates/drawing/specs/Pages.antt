@@ -1,4 +1,4 @@
--- Where things stand on the page: the lines of the list, the plate's size, and how many ticks a picture's length is.
+-- RULES 7.10: where things stand on the page: the lines of the list, the plate's size, and how many ticks a picture's length is.
 use Prim.Native.Nat.{ℕ, zero, suc, _+_, _-_, _*_, _/_, _%_, _≤_, _<_, max, min}
 use mathlib.Core.Bool.{Bool, cond, _&&_}
 use mathlib.Core.List.{List}
@@ -9,7 +9,7 @@ use Rattle.text.specs.Letters as letters
 use Rattle.drawing.specs.Pieces.{fieldOf}
 use Rattle.drawing.specs.declared.Page.{Page}
 
--- ---- the list
+-- ---- RULES 7.10: the list
 -- a number, counted from ten million before zero
 unfoldable pub biased : ℤ → ℕ
 biased (pos n) = 10000000 + n
@@ -31,7 +31,7 @@ unfoldable pub linesFrom : ℕ → ℕ → ℕ → List ℕ → ℕ → ℕ
 linesFrom zero letter size s at = 0
 linesFrom (suc most) letter size s at = cond (isLine letter size s at) (1 + linesFrom most letter size s (at + size)) 0
 
--- ---- the page
+-- ---- RULES 7.10: the page
 -- A long plate is cut into bands, one for each 24 controls, but no more than make the picture as high as wide.
 unfoldable pub bandsFrom : ℕ → ℕ → ℕ → ℕ
 bandsFrom zero long short = 1
@@ -92,7 +92,7 @@ pub record Fair (p : Page) : Type 0 where
   pub unit : p .unit ≤ 20000001
   pub pitch : p .pitch ≤ 32000000040
 
--- ---- places
+-- ---- RULES 7.10: places
 abbrev pub px : Page → ℕ → ℕ
 px p d = scaled (p .large) (p .unit) d
 

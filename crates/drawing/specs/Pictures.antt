@@ -1,4 +1,4 @@
--- The whole drawing of a list: the plate's picture, or the refusal in words.
+-- RULES 7.10: the whole drawing of a list: the plate's picture, or the refusal in words.
 use Prim.Native.Nat.{ℕ, _+_, _-_, _*_, _/_, _%_}
 use mathlib.Core.Bool.{cond}
 use mathlib.Core.List.{List, [], _∷_, _++_}
@@ -13,7 +13,7 @@ use Rattle.drawing.specs.Drawings.{plateAt, plateRow, each}
 use Rattle.drawing.specs.declared.Page.{Page}
 use Rattle.drawing.specs.declared.Layer.the-variants.{ColumnLines, RowLines, Outlines, Windows, Captions, Labels, WidgetRows, ColumnRows, RowRows}
 
--- ---- the page's head
+-- ---- RULES 7.10: the page's head
 unfoldable pub style : List ℕ → List (List ℕ)
 style s = filled (ascii "<style>\n.plate{fill:#f3e2b3;stroke:#6b4f10}\n.cells{stroke:#5b9bd5}\n.frame{fill:none;stroke:#a0522d}\n.control{fill:#fffdf5;fill-opacity:.55;stroke:#333}\n.flat{fill:none;stroke:#333}\n.plate,.cells,.frame,.control,.flat{stroke-linecap:square}\n.line{fill:none;stroke:#333}\ntext{fill:#111;font-size:13px}\n.title{font-size:18px;font-weight:bold}\n.large,.small,.tiny,.middle{text-anchor:middle}\n.large{font-size:14px;font-weight:bold}\n.small{font-size:10px;font-weight:bold}\n.tiny{font-size:8px;paint-order:stroke;stroke:#fff;stroke-width:2px}\n.row{font-family:monospace;font-size:9.5px}\n</style>\n<rect width=\"100%\" height=\"100%\" fill=\"#fff\"/>\n") s 0 []
 
@@ -33,7 +33,7 @@ title p s =
     ++ (points s (p .height)
     ++ filled (ascii "</text>\n<text x=\"60\" y=\"56\">~0 &#215; ~1 ticks; left $0, top $1, right $2, bottom $3; controls: ~2; a tick is 1/32 pt</text>\n") s (plateAt p) (p .width ∷ p .height ∷ p .widgets ∷ []))))
 
--- ---- the picture
+-- ---- RULES 7.10: the picture
 abbrev pub gridded : Page → ℕ
 gridded p = cond (eqb (p .columns) 0) 0 (p .widgets)
 
@@ -73,7 +73,7 @@ scale p s = scaleLine p s (barFrom 21 2097152 (p .unit))
 unfoldable pub picture : Page → List ℕ → List (List ℕ)
 picture p s = shapes p s ++ (each Windows p s (p .bands) 0 ++ (dimensions p s ++ (each Labels p s (p .widgets) 0 ++ scale p s)))
 
--- ---- the list below it
+-- ---- RULES 7.10: the list below it
 unfoldable pub key : Page → List ℕ → List (List ℕ)
 key p s =
     filled (ascii "<text class=\"row\" x=\"40\" y=\"~0\">W record; frame left, top, right, bottom; control left, top, right, bottom. P plate left, top, right, bottom. C column, width. D row, height. In ticks.</text>\n") s 0 ((bottom p + 50) ∷ [])
@@ -86,7 +86,7 @@ key p s =
 unfoldable pub accepted : Page → List ℕ → List (List ℕ)
 accepted p s = head s (pageWidth p) (pageHeight p) ++ (title p s ++ (picture p s ++ key p s))
 
--- ---- a refusal, in words
+-- ---- RULES 7.10: a refusal, in words
 unfoldable pub reason : ℕ → List ℕ
 reason n =
     cond (eqb n 1) (ascii "A record is malformed, out of its place, or has a field out of its range.")
@@ -112,7 +112,7 @@ refusal s line =
     ++ (filled (reason (numberOf s line)) s 0 []
     ++ filled (ascii "</text>\n</svg>\n") s 0 []))
 
--- ---- the drawing of a list, whose W lines come first
+-- ---- RULES 7.10: the drawing of a list, whose W lines come first
 unfoldable pub drawnFrom : List ℕ → ℕ → List (List ℕ)
 drawnFrom s widgets = cond (isLine letters.P 34 s (74 * widgets)) (accepted (pageFor s widgets) s) (refusal s (74 * widgets))
 

@@ -1,4 +1,4 @@
--- A drawing is text, written piece by piece: a byte, or a number in its columns.
+-- RULES 7.10: a drawing is text, written piece by piece: a byte, or a number in its columns.
 use Prim.Native.Nat.{ℕ, _+_, _*_, _%_, min}
 use mathlib.Core.Bool.{cond}
 use mathlib.Core.List.{List, [], _∷_, _++_}
@@ -10,7 +10,7 @@ use Rattle.text.specs.Fields.{text, fieldAt}
 use Rattle.text.specs.declared.Field.{Field}
 use Rattle.text.specs.declared.Field.the-variants.{Blank, Number, Wrong}
 
--- ---- the numbers of a list
+-- ---- RULES 7.10: the numbers of a list
 -- what a field holds; 0 where it is no number
 unfoldable pub valueOf : Field → ℤ
 valueOf Blank = pos 0
@@ -21,7 +21,7 @@ valueOf Wrong = pos 0
 unfoldable pub fieldOf : List ℕ → ℕ → ℕ → ℤ
 fieldOf s line i = valueOf (fieldAt 9999999 s (line + (1 + 8 * i)))
 
--- ---- templates
+-- ---- RULES 7.10: templates
 -- no number of a drawing is larger
 abbrev pub numeral : ℕ → ℤ
 numeral n = pos (min n 99999999)
@@ -59,7 +59,7 @@ filledFrom mark (b ∷ t) s line ns = part mark b s line ns ++ filledFrom (next 
 abbrev pub filled : List ℕ → List ℕ → ℕ → List ℕ → List (List ℕ)
 filled t s line ns = filledFrom 0 t s line ns
 
--- ---- what is written
+-- ---- RULES 7.10: what is written
 pub record Put : Type 0 where
   pub at : ℕ
   pub out : List ℕ

@@ -1,5 +1,5 @@
--- min and max in document 01's words, for every two floats: where they are equal the first, where one is NaN the other, else the lesser
--- or the greater; always one of the two. Assumes nothing.
+-- min and max as RULES 1.3 words them, for every two floats: of two that are equal the first; the other one where one is NaN; else the
+-- lesser or the greater. It is always one of the two. Assumes nothing.
 use mathlib.Core.Path.{subst, _≡_, refl, sym}
 use mathlib.Core.Logic.{_⊎_, inl, inr}
 use Prim.Native.Nat.{ℕ, _+_, _*_}

@@ -1,4 +1,5 @@
--- What a reader must believe of this crate, in document 01's order: its rectangles, its domain, the numbers of what it turns back.
+-- What a reader must believe of this crate: RULES 1 (Rectangles, Steps), RULES 5 (Domain), and RULES 8 for lengths, sizes and rectangles
+-- (Numbers, Refusals).
 pub mod Rectangles
 pub mod Domain
 pub mod Numbers

@@ -1,6 +1,7 @@
--- The numbers of the refusals, in the order in which they are looked for; 0 is none. Cited as number.NAME.
+-- RULES 8.1: the numbers of the refusals, in the order in which they are looked for; 0 is none. Cited as number.NAME.
 use Prim.Native.Nat.{ℕ}
 
+-- ---- RULES 8.1, number by number
 -- of a sheet's text: a record is malformed, out of its place or out of its range
 abbrev pub malformed : ℕ
 malformed = 1

@@ -1,5 +1,4 @@
--- Document 01, "Turned back": the numbers of its table for the arguments and answers of this crate's types. 0 is no number.
--- "Checked in rising order": a call's number is the least that applies.
+-- RULES 8.2, 8.5, 8.13, 8.14: which numbers lengths, sizes and rectangles have of their own, and which of several is the call's. 0 is none.
 use Prim.Native.Nat.{ℕ}
 use mathlib.Core.Bool.{Bool, cond, not}
 use mathlib.Core.List.{List, [], _∷_}
@@ -11,6 +10,7 @@ use Rattle.emath.specs.Numbers as number
 use Rattle.emath.specs.declared.Vec2.{Vec2}
 use Rattle.emath.specs.declared.Rect.{Rect}
 
+-- ---- RULES 8.2: of all the numbers that apply, the least
 -- a number, where its condition holds
 abbrev pub when : Bool → ℕ → ℕ
 when b n = cond b n 0
@@ -25,11 +25,12 @@ least [] = 0
 least (n ∷ []) = n
 least (n ∷ m ∷ ns) = lesser n (least (m ∷ ns))
 
--- the first number, or else the second: the answer is looked at only if the arguments have no fault
+-- RULES 8.2: the first number, or else the second: the answer is looked at only if the arguments have no fault
 unfoldable pub orElse : ℕ → ℕ → ℕ
 orElse n m = cond (eqb n 0) m n
 
--- 4: "NaN, or infinity outside the exceptions"; 5: "a length above 65,536 in magnitude". Of a length, …
+-- ---- RULES 8.5: the numbers of a value
+-- 4 where it is not finite, 5 where it is beyond the limit: of a length, …
 unfoldable pub lengthFault : Float → ℕ
 lengthFault x = least (when (not (finite x)) number.notFinite ∷ when (not (within x)) number.tooFar ∷ [])
 
@@ -41,21 +42,21 @@ pairFault x y = least (when (not (bothOf finite x y)) number.notFinite ∷ when 
 unfoldable pub edgesFault : Rect → ℕ
 edgesFault r = least (when (not (edgesOf finite r)) number.notFinite ∷ when (not (edgesOf within r)) number.tooFar ∷ [])
 
--- 6: "negative widget size, maximum width or height, …"
+-- RULES 8.5: 6 too, where it is below zero: of a length that says how large something is, and of a size
 unfoldable pub extentFault : Float → ℕ
 extentFault x = least (lengthFault x ∷ when (lt x zeroF) number.negative ∷ [])
 
 unfoldable pub sizeFault : Vec2 → ℕ
 sizeFault v = least (pairFault (v .x) (v .y) ∷ when (negative v) number.negative ∷ [])
 
--- 6: "inside-out frame, outer, widget, min_rect or max_rect"
+-- RULES 8.5: 6 too, where the rectangle is inside out
 unfoldable pub rectFault : Rect → ℕ
 rectFault r = least (edgesFault r ∷ when (insideOut r) number.negative ∷ [])
 
--- 9: "an answer or new state outside the domain": it has a fault of its own.
+-- RULES 8.13: 9 for whatever number an answer has of its own
 unfoldable pub outside : ℕ → ℕ
 outside n = cond (eqb n 0) 0 number.outside
 
--- 10: "a computed frame is inside out"
+-- RULES 8.14: of a frame that was computed, 9, or else 10 where it is inside out
 unfoldable pub frameFault : Rect → ℕ
 frameFault r = least (outside (edgesFault r) ∷ when (insideOut r) number.insideOut ∷ [])

@@ -1,4 +1,4 @@
-// Document 01's "align on an axis", and on both.
+// RULES 1.13, 1.14: a size aligned on an axis, and on both.
 ghost use mathlib.Core.Path.{_≡_};
 ghost use mathlib.Core.Bool.{_&&_};
 ghost use lib.Ieee.{binary32, sub};

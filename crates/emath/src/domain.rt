@@ -1,4 +1,4 @@
-// The tests of document 01's "Domain".
+// The tests of the domain (RULES 5).
 ghost use mathlib.Core.Path.{_≡_};
 ghost use Rattle.emath.specs.Domain.{finite, within, bothOf, edgesOf, negative, insideOut};
 use crate::LIMIT;

@@ -1,4 +1,4 @@
-// The numbers of document 01's "Turned back" for this crate's types. 0: none.
+// RULES 8.5: the numbers that values of this crate's types have of their own. 0: none.
 ghost use mathlib.Core.Path.{_≡_};
 ghost use Rattle.emath.specs.Refusals.{when, lesser, orElse, lengthFault, extentFault, pairFault, sizeFault, edgesFault, rectFault, outside, frameFault};
 use crate::Rect;

@@ -1,4 +1,4 @@
-// Document 01's "round_ui", worked out here and not by a library.
+// RULES 1.15, 1.16: rounding, worked out here and not by a library.
 ghost use mathlib.Core.Path.{_≡_};
 ghost use mathlib.Core.Bool.{true, false};
 ghost use lib.Dec.{T};
@@ -106,7 +106,7 @@ impl Rect {
             & (is_in_ticks(self.top) & (is_in_ticks(self.right) & is_in_ticks(self.bottom)))
     }
 
-    // The same, small enough to stand where it is called: quick where all edges are whole ticks.
+    // The same, short enough to be inlined: the fast path is that all edges are whole ticks already.
     pub fn round_ui_quickly(self) -> Rect
         ensures { λ r. ⌜ r ≡ roundRect tick self ⌝ }
     {

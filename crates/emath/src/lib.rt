@@ -1,4 +1,4 @@
-// The arithmetic leaf: document 01's rectangles, by value, and the tests and numbers of its domain.
+// The arithmetic under everything else (RULES 1): rectangles by value, and the tests and numbers of the domain (RULES 5, 8).
 // Names are those of egui's crate emath.
 mod aligning;
 pub mod domain;
@@ -44,7 +44,7 @@ pub struct Align2 {
     pub y: Align,
 }
 
-// Document 01's tick is 1/32 point.
+// RULES 1.2: a tick is 1/32 point.
 pub const TICKS_PER_POINT: f32 = 32.0;
 
 pub const TICK: f32 = 1.0 / TICKS_PER_POINT;

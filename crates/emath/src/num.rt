@@ -1,10 +1,10 @@
-// Two numbers: document 01's min, max, at_least, at_most and midpoint.
+// Two numbers: min, max, at_least, at_most and fast_midpoint (RULES 1.3, 1.6).
 ghost use mathlib.Core.Path.{_≡_};
 ghost use lib.Ieee.{inf, nan};
 ghost use mathlib.Core.Bool.{true, false};
 ghost use Rattle.emath.specs.Rectangles.{minF, maxF, atLeast, atMost, midpoint, isInfinite};
 
-// If equal, the first; if one is NaN, the other.
+// Of two equal numbers the first; a NaN gives way to the other.
 pub fn min(a: f32, b: f32) -> f32
     ensures { λ r. ⌜ r ≡ minF a b ⌝ }
 {
@@ -17,7 +17,7 @@ pub fn min(a: f32, b: f32) -> f32
     }
 }
 
-// If equal, the first; if one is NaN, the other.
+// Of two equal numbers the first; a NaN gives way to the other.
 pub fn max(a: f32, b: f32) -> f32
     ensures { λ r. ⌜ r ≡ maxF a b ⌝ }
 {

@@ -1,4 +1,4 @@
-// The numbers of the refusals; 0 is none.
+// RULES 8.1: the numbers of the refusals; 0 is none.
 pub const MALFORMED: u8 = 1;
 
 pub const TOO_LONG: u8 = 2;

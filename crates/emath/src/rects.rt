@@ -1,4 +1,4 @@
-// Document 01's "Rectangles", but for alignment and rounding.
+// RULES 1.5 to 1.12: rectangles, but for alignment and rounding.
 ghost use mathlib.Core.Path.{_≡_};
 ghost use Rattle.emath.specs.Rectangles.{width, height, sizeOf, center, fromMinSize, fromCenterSize, translate, intersect, union, extendWithX, extendWithY, intersects, shrink, zeroF};
 use crate::Pos2;

@@ -98,7 +98,7 @@ module _ (xs : List Float) (n i : ℕ) (w : Float) (N : n ≤ length xs) (I : i 
       at j other (omega (arith, c)) ∙ other-entry j d ∙ cleared-before xs n (i - n) j h
       ∙ sym (entry-there (take n xs) j other m ∙ getD-take n xs j nan h)
 
-  -- "skipped rows hold 0"
+  -- RULES 3.3: what was skipped holds 0
   pub raised-skipped : (j : ℕ) (other : Float) → n ≤ j → j < i → entry after j other ≡ zeroF
   raised-skipped j other g h =
       let c = count-is in

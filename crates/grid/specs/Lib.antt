@@ -1,4 +1,5 @@
--- grid.rs, in its order: lists of lengths; the memory; what the grid computes; what is refused; the public calls with the refusals in front.
+-- grid.rs (RULES 3), in its order: lists of lengths; the memory; what the grid computes; what is refused; the public calls with the
+-- refusals in front (RULES 8.16).
 pub mod Entries
 pub mod Memories
 pub mod Grids

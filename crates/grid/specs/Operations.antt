@@ -1,5 +1,5 @@
--- The public calls of grid.rs: the least number that applies to the arguments, or else to the answer, or else what the rule gives.
--- "Callers' states count as arguments." Where a call rounds, the step is 1 / 2 ^ k point.
+-- RULES 8.16: the public calls of grid.rs: the least number that applies to the arguments, or else to the answer, or else what the rule
+-- gives. A state that the caller hands in is an argument like the others. Where a call rounds, the step is 1 / 2 ^ k point.
 use Prim.Native.Nat.{ℕ}
 use mathlib.Core.Bool.{Bool}
 use mathlib.Core.List.{[], _∷_}
@@ -26,7 +26,7 @@ use Rattle.grid.specs.declared.GridAnswer.{GridAnswer}
 use Rattle.grid.specs.declared.MovedAnswer.{MovedAnswer}
 use Rattle.grid.specs.declared.SavedAnswer.{SavedAnswer}
 
--- ---- Memory
+-- ---- RULES 8.16, Memory: 8 where the arrays have no such place
 unfoldable pub checkedSetMinColWidth : Memory → ℕ → Float → MemoryAnswer
 checkedSetMinColWidth m col w =
     memoryAnswer (orElse (least (memoryFault m ∷ extentFault w ∷ when (leb 32 col) number.gridFull ∷ [])) (outside (memoryFault (setMinColWidth m col w)))) m (setMinColWidth m col w)
@@ -35,21 +35,22 @@ unfoldable pub checkedSetMinRowHeight : Memory → ℕ → Float → MemoryAnswe
 checkedSetMinRowHeight m row h =
     memoryAnswer (orElse (least (memoryFault m ∷ extentFault h ∷ when (leb 128 row) number.gridFull ∷ [])) (outside (memoryFault (setMinRowHeight m row h)))) m (setMinRowHeight m row h)
 
--- a column or row beyond the count has no entry
+-- RULES 8.16: a column or row beyond the count has no entry
 unfoldable pub checkedColWidth : Memory → ℕ → LengthAnswer
 checkedColWidth m col = entryAnswer (memoryFault m) (ltb col (m .cols)) (colWidth m col zeroF)
 
 unfoldable pub checkedRowHeight : Memory → ℕ → LengthAnswer
 checkedRowHeight m row = entryAnswer (memoryFault m) (ltb row (m .rows)) (rowHeight m row zeroF)
 
+-- RULES 8.16, full_width: its number, then what it answers; so with each query below
 unfoldable pub fullWidthNumber : Memory → Float → ℕ
 fullWidthNumber m x = orElse (least (memoryFault m ∷ lengthFault x ∷ [])) (outside (lengthFault (fullWidth m x)))
 
 unfoldable pub checkedFullWidth : Memory → Float → LengthAnswer
 checkedFullWidth m x = lengthAnswer (fullWidthNumber m x) (fullWidth m x)
 
--- ---- GridLayout
--- An absent memory is not read. There is no given grid: refused, the answer is a grid of zeros.
+-- ---- RULES 8.16, GridLayout
+-- An absent memory is not read. There is no given grid: refused, the answer is `emptyGrid`.
 unfoldable pub checkedNew : Direction → Region → Bool → Memory → Bool → Vec2 → Vec2 → Vec2 → ℕ → ℕ → GridAnswer
 checkedNew d g known m sizing sp smallest largest columns start =
     gridAnswer
@@ -58,12 +59,14 @@ checkedNew d g known m sizing sp smallest largest columns start =
     (outside (gridFault (newGrid g known m sizing sp smallest largest columns start))))
     emptyGrid (newGrid g known m sizing sp smallest largest columns start)
 
+-- RULES 8.16: the last pass's lengths
 unfoldable pub checkedPrevColWidth : GridLayout → ℕ → LengthAnswer
 checkedPrevColWidth g col = lengthAnswer (gridFault g) (prevColWidth g col)
 
 unfoldable pub checkedPrevRowHeight : GridLayout → ℕ → LengthAnswer
 checkedPrevRowHeight g row = lengthAnswer (gridFault g) (prevRowHeight g row)
 
+-- RULES 8.16: rectangles; a cell may not be inside out (RULES 8.14)
 unfoldable pub availableRectNumber : GridLayout → Direction → Region → ℕ
 availableRectNumber g d r = placedNumber (least (gridFault g ∷ regionFault d r ∷ directionFault d ∷ [])) (availableRect g r)
 
@@ -82,7 +85,7 @@ alignSizeWithinRectNumber k g s f = placedNumber (least (gridFault g ∷ sizeFau
 unfoldable pub checkedAlignSizeWithinRect : ℕ → GridLayout → Vec2 → Rect → RectAnswer
 checkedAlignSizeWithinRect k g s f = rectAnswer (alignSizeWithinRectNumber k g s f) (alignSizeWithinRect k s f)
 
--- 8: "an advance (so a W) at column 32 or row 128"
+-- RULES 8.16: 8 where no column or no row is left (RULES 8.12)
 unfoldable pub checkedAdvance : GridLayout → Direction → Rect → Rect → Rect → MovedAnswer
 checkedAdvance g d c f w =
     movedAnswer
@@ -91,12 +94,13 @@ checkedAdvance g d c f w =
     (outside (movedFault d (advance g c w))))
     (record { grid = g; cursor = c }) (advance g c w)
 
--- 8: "an end of row at row 128"
+-- RULES 8.16: 8 where no row is left
 unfoldable pub checkedEndRow : GridLayout → Direction → Rect → MovedAnswer
 checkedEndRow g d c =
     movedAnswer
     (orElse (least (gridFault g ∷ cursorFault d c ∷ directionFault d ∷ when (leb 128 (g .row)) number.gridFull ∷ [])) (outside (movedFault d (endRow g c))))
     (record { grid = g; cursor = c }) (endRow g c)
 
+-- RULES 8.16: refused, it hands back what the pass was given
 unfoldable pub checkedSave : GridLayout → SavedAnswer
 checkedSave g = savedAnswer (gridFault g) (g .«prev_state») (save g)

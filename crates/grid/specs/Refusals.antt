@@ -1,4 +1,4 @@
--- Document 01, "Turned back", for a memory and a grid; and the answers that carry the numbers.
+-- RULES 8.4, 8.5, 8.11, 8.13: the faults of a memory and a grid, and the answers that carry the numbers.
 use Prim.Native.Nat.{ℕ}
 use mathlib.Core.Bool.{Bool, true, false, cond, not}
 use mathlib.Core.List.{[], _∷_}
@@ -26,21 +26,21 @@ use Rattle.grid.specs.declared.MovedAnswer.{MovedAnswer}
 use Rattle.grid.specs.declared.SavedAnswer.{SavedAnswer}
 
 -- ---- the faults of a state
--- 4, 5 and 6 of the counted entries; 8: "a state's … column count above 32, or … row count above 128"
+-- RULES 8.5: 4, 5 and 6 of the counted entries; 8 where more is counted than there is room for
 unfoldable pub memoryFault : Memory → ℕ
 memoryFault m = least (entriesFault (widths m) ∷ entriesFault (heights m) ∷ when (ltb 32 (m .cols)) number.gridFull ∷ when (ltb 128 (m .rows)) number.gridFull ∷ [])
 
--- "a maximum cell size may be positive infinity"
+-- RULES 8.5: those of a size, but +∞ is allowed (RULES 5.3)
 unfoldable pub maxCellFault : Vec2 → ℕ
 maxCellFault v = sizeFault (record { x = excused infinity (v .x); y = excused infinity (v .y) })
 
--- 8: "a state's column … above 32, or row … above 128"
+-- RULES 8.5: those of its parts; 8 where it is past column 32 or row 128
 unfoldable pub gridFault : GridLayout → ℕ
 gridFault g = least (
     memoryFault (g .«prev_state») ∷ memoryFault (g .«curr_state») ∷ edgesFault (g .«initial_available») ∷ pairFault (g .spacing .x) (g .spacing .y)
     ∷ sizeFault (g .«min_cell_size») ∷ maxCellFault (g .«max_cell_size») ∷ when (ltb 32 (g .col)) number.gridFull ∷ when (ltb 128 (g .row)) number.gridFull ∷ [])
 
--- 7: "grid on direction 1 or 3"
+-- RULES 8.11: a grid is filled from the left or from the top; 7 for the other two
 unfoldable pub fitsGrid : Direction → Bool
 fitsGrid LeftToRight = true
 fitsGrid RightToLeft = false
@@ -50,11 +50,12 @@ fitsGrid BottomUp = false
 unfoldable pub directionFault : Direction → ℕ
 directionFault d = when (not (fitsGrid d)) number.notInGrid
 
--- a new grid and cursor
+-- RULES 8.13: of a grid and a cursor that are new
 unfoldable pub movedFault : Direction → Moved → ℕ
 movedFault d m = least (gridFault (m .grid) ∷ cursorFault d (m .cursor) ∷ [])
 
--- ---- the answers
+-- ---- RULES 8.4: the answers
+-- the number, and the state that is new, or the one that was given
 unfoldable pub memoryAnswer : ℕ → Memory → Memory → MemoryAnswer
 memoryAnswer n given new = record { number = n; memory = cond (eqb n 0) new given }
 
@@ -64,18 +65,19 @@ gridAnswer n given new = record { number = n; grid = cond (eqb n 0) new given }
 unfoldable pub movedAnswer : ℕ → Moved → Moved → MovedAnswer
 movedAnswer n given new = record { number = n; moved = cond (eqb n 0) new given }
 
--- refused, the memory is the one that the pass was given, and the flag is clear
+-- RULES 8.4: refused, the memory is the one that the pass was given, and the flag is clear
 unfoldable pub savedAnswer : ℕ → Memory → Saved → SavedAnswer
 savedAnswer n given new = record { number = n; saved = cond (eqb n 0) new (record { memory = given; save = false }) }
 
+-- RULES 8.4: a length, or the refusal
 unfoldable pub lengthAnswer : ℕ → Float → LengthAnswer
 lengthAnswer n v = cond (eqb n 0) (Length v) (Refused n)
 
--- an entry that may not be there
+-- RULES 8.4: an entry that may not be there
 unfoldable pub entryAnswer : ℕ → Bool → Float → LengthAnswer
 entryAnswer n there v = cond (eqb n 0) (cond there (Length v) Nothing) (Refused n)
 
--- the number and the value of each case: where nothing is remembered the value is zero, as where the call is refused
+-- RULES 8.4: the number and the value of each case: where nothing is remembered the value is zero, as where the call is refused
 unfoldable pub lengthNumber : LengthAnswer → ℕ
 lengthNumber (Length v) = 0
 lengthNumber Nothing = 0
@@ -86,6 +88,6 @@ lengthValue (Length v) = v
 lengthValue Nothing = zeroF
 lengthValue (Refused n) = zeroF
 
--- what a call of this number has for a value: the rule's where it is 0, else zero
+-- RULES 8.4: what a call of this number has for a value: the rule's where it is 0, else zero
 unfoldable pub lengthOrZero : ℕ → Float → Float
 lengthOrZero n v = cond (eqb n 0) v zeroF

@@ -1,4 +1,4 @@
-// The numbers of document 01's "Turned back" for a memory and a grid, and the answers that carry them.
+// The numbers that a memory and a grid have (RULES 8.5), and the answers that carry a call's (RULES 8.4).
 use crate::GridAnswer;
 use crate::GridLayout;
 use crate::LengthAnswer;

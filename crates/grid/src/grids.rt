@@ -66,7 +66,7 @@ pub fn new_grid(
     }
 }
 
-// What `new` answers where it is refused: all zero, and no memory known.
+// What `new` answers where it is refused: a first pass over an empty memory, every length zero.
 pub fn empty_grid() -> GridLayout
     ensures { λ g. ⌜ g ≡ emptyGrid ⌝ }
 {

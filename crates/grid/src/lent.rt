@@ -94,7 +94,7 @@ pub fn whole(
     }
 }
 
-// A sizing pass is as narrow as can be.
+// A sizing pass goes by no remembered width.
 fn next_width(grid: BareGrid, spot: GridSpot, prev_widths: &[f32]) -> f32
     ensures { λ r. ⌜ r ≡ nextWidth (gridOf grid spot (now («prev_widths» .entry)) [] [] []) ⌝ }
 {

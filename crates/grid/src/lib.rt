@@ -1,6 +1,6 @@
-// egui's grid.rs: the memory of a grid's column widths and row heights, and the grid's layout.
-// The unchecked rules are total functions, in `memories` and `grids`; `operations` holds the public calls, which refuse by document 01's
-// table with the numbers of `faults`.
+// egui's grid.rs (RULES 3): the memory of a grid's column widths and row heights, and the grid's layout.
+// The unchecked rules are total functions, in `memories` and `grids`; `operations` holds the public calls, which refuse by RULES 8.16 with
+// the numbers of `faults`.
 use emath::Rect;
 use emath::Vec2;
 

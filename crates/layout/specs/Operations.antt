@@ -1,5 +1,5 @@
--- The public calls of layout.rs: the least number that applies to the arguments, or else to the answer, or else what the rule gives.
--- "Callers' states count as arguments." Where a call rounds, the step is 1 / 2 ^ k point.
+-- RULES 8.15: the public calls of layout.rs: the least number that applies to the arguments, or else to the answer, or else what the rule
+-- gives. A state that the caller hands in is an argument like the others. Where a call rounds, the step is 1 / 2 ^ k point.
 use Prim.Native.Nat.{ℕ}
 use mathlib.Core.List.{[], _∷_}
 use lib.Ieee.{Float}
@@ -17,14 +17,15 @@ use Rattle.region.specs.declared.SizeAnswer.{SizeAnswer}
 use Rattle.region.specs.declared.RegionAnswer.{RegionAnswer}
 use Rattle.region.specs.declared.CursorAnswer.{CursorAnswer}
 
--- ---- Layout
+-- ---- RULES 8.15: a size in a rectangle. Of each call first its number, then what it answers.
 unfoldable pub alignSizeWithinRectNumber : ℕ → Layout → Vec2 → Rect → ℕ
 alignSizeWithinRectNumber k l size outer = placedNumber (least (sizeFault size ∷ rectFault outer ∷ [])) (alignSizeWithinRect k l size outer)
 
 unfoldable pub checkedAlignSizeWithinRect : ℕ → Layout → Vec2 → Rect → RectAnswer
 checkedAlignSizeWithinRect k l size outer = rectAnswer (alignSizeWithinRectNumber k l size outer) (alignSizeWithinRect k l size outer)
 
--- its answer is a cursor, whose open edge is infinite
+-- ---- RULES 8.15: what a layout begins with
+-- the answer is a cursor, whose open edge is infinite
 unfoldable pub initialCursorNumber : Layout → Rect → ℕ
 initialCursorNumber l m = orElse (rectFault m) (outside (cursorFault (l .«main_dir») (initialCursor (l .«main_dir») m)))
 
@@ -35,6 +36,7 @@ checkedInitialCursor l m = rectAnswer (initialCursorNumber l m) (initialCursor (
 unfoldable pub checkedRegionFromMaxRect : ℕ → Layout → Rect → RegionAnswer
 checkedRegionFromMaxRect k l m = moved (l .«main_dir») (rectFault m) zeroRegion (regionFromMaxRect k l m)
 
+-- ---- RULES 8.15: what is available
 unfoldable pub availableRectBeforeWrapNumber : Layout → Region → ℕ
 availableRectBeforeWrapNumber l g = placedNumber (regionFault (l .«main_dir») g) (availableRectBeforeWrap (l .«main_dir») g)
 
@@ -53,6 +55,7 @@ availableFromCursorMaxRectNumber l c m = placedNumber (least (cursorFault (l .«
 unfoldable pub checkedAvailableFromCursorMaxRect : Layout → Rect → Rect → RectAnswer
 checkedAvailableFromCursorMaxRect l c m = rectAnswer (availableFromCursorMaxRectNumber l c m) (availableFromCursorMaxRect (l .«main_dir») c m)
 
+-- ---- RULES 8.15: frames, which may not be inside out (RULES 8.14)
 unfoldable pub nextFrameNumber : ℕ → Layout → Region → Vec2 → Vec2 → ℕ
 nextFrameNumber k l g s sp = framedNumber (least (regionFault (l .«main_dir») g ∷ sizeFault s ∷ pairFault (sp .x) (sp .y) ∷ [])) (nextFrame k l g s sp)
 
@@ -65,6 +68,7 @@ nextFrameIgnoreWrapNumber k l g s = framedNumber (least (regionFault (l .«main_
 unfoldable pub checkedNextFrameIgnoreWrap : ℕ → Layout → Region → Vec2 → RectAnswer
 checkedNextFrameIgnoreWrap k l g s = rectAnswer (nextFrameIgnoreWrapNumber k l g s) (nextFrameIgnoreWrap k l g s)
 
+-- ---- RULES 8.15: widgets
 unfoldable pub justifyAndAlignNumber : ℕ → Layout → Rect → Vec2 → ℕ
 justifyAndAlignNumber k l f s = placedNumber (least (rectFault f ∷ sizeFault s ∷ [])) (justifyAndAlign k l f s)
 
@@ -83,6 +87,7 @@ nextWidgetPositionNumber k l g = orElse (regionFault (l .«main_dir») g) (outsi
 unfoldable pub checkedNextWidgetPosition : ℕ → Layout → Region → PosAnswer
 checkedNextWidgetPosition k l g = posAnswer (nextWidgetPositionNumber k l g) (nextWidgetPosition k l g)
 
+-- ---- RULES 8.15: a region or a cursor that is new, or as it was given where the call is refused
 unfoldable pub checkedAdvanceCursor : Layout → Region → Float → RegionAnswer
 checkedAdvanceCursor l g a =
     moved (l .«main_dir») (least (regionFault (l .«main_dir») g ∷ lengthFault a ∷ [])) g (advanceCursor (l .«main_dir») g a)

@@ -1,4 +1,5 @@
--- layout.rs, "Region" and "Doing layout", function by function, before anything is refused. Where a call rounds, the step is 1 / 2 ^ k point.
+-- RULES 2.9 to 2.25: layout.rs, "Doing layout", function by function, before anything is refused. Where a call rounds, the step is
+-- 1 / 2 ^ k point.
 use Prim.Native.Nat.{ℕ}
 use mathlib.Core.Bool.{Bool, cond, not, _&&_, _||_}
 use lib.Ieee.{Float, nan, binary32, neg, add, sub, lt}
@@ -18,18 +19,18 @@ use Rattle.region.specs.declared.Direction.the-variants.{LeftToRight, RightToLe
 use Rattle.layout.specs.declared.Layout.{Layout}
 use Rattle.region.specs.declared.Region.{Region}
 
--- ---- align_size_within_rect
+-- ---- RULES 2.9, align_size_within_rect: by align2, and rounded
 unfoldable pub alignSizeWithinRect : ℕ → Layout → Vec2 → Rect → Rect
 alignSizeWithinRect k l size outer = roundRect k (alignWithin (align2 l) size outer)
 
--- ---- initial_cursor
+-- ---- RULES 2.10, initial_cursor: max_rect with its open edge at the outward infinity
 unfoldable pub initialCursor : Direction → Rect → Rect
 initialCursor LeftToRight m = setRight m infinity
 initialCursor RightToLeft m = setLeft m (neg infinity)
 initialCursor TopDown m = setBottom m infinity
 initialCursor BottomUp m = setTop m (neg infinity)
 
--- ---- available_from_cursor_max_rect
+-- ---- RULES 2.11, available_from_cursor_max_rect
 -- max_rect from the cursor on
 unfoldable pub uncut : Direction → Rect → Rect → Rect
 uncut LeftToRight c m = record { left = c .left; top = m .top; right = maxF (maxF (m .right) (c .left)) (c .left); bottom = maxF (m .bottom) (m .top) }
@@ -37,7 +38,7 @@ uncut RightToLeft c m = record { left = minF (minF (m .left) (c .right)) (c .rig
 uncut TopDown c m = record { left = m .left; top = c .top; right = maxF (m .right) (m .left); bottom = maxF (maxF (m .bottom) (c .top)) (c .top) }
 uncut BottomUp c m = record { left = m .left; top = minF (minF (m .top) (c .bottom)) (c .bottom); right = maxF (m .right) (m .left); bottom = c .bottom }
 
--- the midpoint where the range is inside out
+-- both ends are the midpoint where the range is inside out
 unfoldable pub notNegative : Float → Float → Rangef
 notNegative low high = cond (lt high low) (record { min = midpoint low high; max = midpoint low high }) (record { min = low; max = high })
 
@@ -49,13 +50,15 @@ notNegativeRect r = record {
   bottom = notNegative (r .top) (r .bottom) .max;
 }
 
+-- RULES 2.11: no more than the cursor has
 unfoldable pub availableFromCursorMaxRect : Direction → Rect → Rect → Rect
 availableFromCursorMaxRect d c m = notNegativeRect (intersect (uncut d c m) c)
 
--- ---- available_rect_before_wrap, available_size
+-- ---- RULES 2.12, available_rect_before_wrap
 unfoldable pub availableRectBeforeWrap : Direction → Region → Rect
 availableRectBeforeWrap d g = availableFromCursorMaxRect d (g .cursor) (g .«max_rect»)
 
+-- RULES 2.12, available_size: with wrap it is a whole row or column
 unfoldable pub availableSize : Layout → Region → Vec2
 availableSize l g =
     cond (l .«main_wrap»)
@@ -64,15 +67,14 @@ availableSize l g =
     (record { x = width (g .cursor); y = height (g .«max_rect») }))
     (sizeOf (availableRectBeforeWrap (l .«main_dir») g))
 
--- ---- next_frame
--- "wrapping happens only if available < child and the cursor is past the starting edge, both strict"
+-- ---- RULES 2.13: the child is longer than what is left, and the cursor has moved on from the starting edge; a child that just fits stays
 unfoldable pub overflows : Direction → Rect → Region → Vec2 → Bool
 overflows LeftToRight a g s = lt (width a) (s .x) && lt (g .«max_rect» .left) (g .cursor .left)
 overflows RightToLeft a g s = lt (width a) (s .x) && lt (g .cursor .right) (g .«max_rect» .right)
 overflows TopDown a g s = lt (height a) (s .y) && lt (g .«max_rect» .top) (g .cursor .top)
 overflows BottomUp a g s = lt (height a) (s .y) && lt (g .cursor .bottom) (g .«max_rect» .bottom)
 
--- a new row starts below min_rect, a new column right of the cursor; each is at least as large across as the cursor and the child
+-- ---- RULES 2.14: a new row starts below min_rect, a new column right of the cursor; each is at least as large across as cursor and child
 unfoldable pub newRow : Region → Vec2 → Vec2 → Rangef
 newRow g s sp = record {
   min = add binary32 (g .«min_rect» .bottom) (sp .y);
@@ -85,13 +87,14 @@ newColumn g s sp = record {
   max = add binary32 (add binary32 (g .cursor .right) (sp .x)) (maxF (width (g .cursor)) (s .x));
 }
 
+-- RULES 2.14: from max_rect's starting edge on, the open edge infinite
 unfoldable pub newCursor : Direction → Region → Vec2 → Vec2 → Rect
 newCursor LeftToRight g s sp = record { left = g .«max_rect» .left; top = newRow g s sp .min; right = infinity; bottom = newRow g s sp .max }
 newCursor RightToLeft g s sp = record { left = neg infinity; top = newRow g s sp .min; right = g .«max_rect» .right; bottom = newRow g s sp .max }
 newCursor TopDown g s sp = record { left = newColumn g s sp .min; top = g .«max_rect» .top; right = newColumn g s sp .max; bottom = infinity }
 newCursor BottomUp g s sp = record { left = newColumn g s sp .min; top = neg infinity; right = newColumn g s sp .max; bottom = g .«max_rect» .bottom }
 
--- max_rect reaches the new row's bottom, or the new column's right
+-- RULES 2.14: max_rect reaches the new row's bottom, or the new column's right
 unfoldable pub reaching : Bool → Rect → Rect → Rect
 reaching h m c = cond h (setBottom m (maxF (m .bottom) (c .bottom))) (setRight m (maxF (m .right) (c .right)))
 
@@ -102,20 +105,22 @@ newRegion d g s sp = record {
   cursor = newCursor d g s sp;
 }
 
--- ---- next_frame_ignore_wrap
+-- ---- RULES 2.16: a frame's size
+-- it is full across the row or column where the child is centred there, and wherever it is justified
 unfoldable pub fillsWidth : Layout → Bool
 fillsWidth l = (not (isHorizontal (l .«main_dir»)) && isCenter (horizontalAlign l)) || horizontalJustify l
 
 unfoldable pub fillsHeight : Layout → Bool
 fillsHeight l = (isHorizontal (l .«main_dir») && isCenter (verticalAlign l)) || verticalJustify l
 
--- the child's, or the full one: the cursor's with wrap, else what is available
+-- RULES 2.16: the child's, or the full one if that is larger: the cursor's with wrap, else what is available
 unfoldable pub frameWidth : Layout → Rect → Rect → Float → Float
 frameWidth l c a w = cond (fillsWidth l) (maxF w (cond (l .«main_wrap») (width c) (width a))) w
 
 unfoldable pub frameHeight : Layout → Rect → Rect → Float → Float
 frameHeight l c a h = cond (fillsHeight l) (maxF h (cond (l .«main_wrap») (height c) (height a))) h
 
+-- ---- RULES 2.17, next_frame_ignore_wrap: a frame's place
 -- at the starting edge on the main axis
 unfoldable pub frameAlign2 : Direction → Align2 → Align2
 frameAlign2 LeftToRight a = withX a Min
@@ -123,26 +128,31 @@ frameAlign2 RightToLeft a = withX a Max
 frameAlign2 TopDown a = withY a Min
 frameAlign2 BottomUp a = withY a Max
 
--- a horizontal layout's frame that is above the cursor's top is moved down to it
+-- RULES 2.17: a horizontal layout's frame that is above the cursor's top is moved down to it, and by 0 across. The Rust has 0 times the
+-- distance there, which is the same unless the distance is infinite, and then NaN; with arguments of the domain both tops are finite.
 unfoldable pub movedDown : Bool → Rect → Rect → Rect
 movedDown h f c = cond (h && lt (f .top) (c .top)) (translate f (record { x = zeroF; y = sub binary32 (c .top) (f .top) })) f
 
+-- RULES 2.17: of that size and so aligned in what is available
 unfoldable pub frameRect : Layout → Rect → Rect → Vec2 → Rect
 frameRect l c a s =
     movedDown (isHorizontal (l .«main_dir»))
     (alignWithin (frameAlign2 (l .«main_dir») (align2 l)) (record { x = frameWidth l c a (s .x); y = frameHeight l c a (s .y) }) a)
     c
 
+-- RULES 2.17: its edges rounded
 unfoldable pub nextFrameIgnoreWrap : ℕ → Layout → Region → Vec2 → Rect
 nextFrameIgnoreWrap k l g s = roundRect k (frameRect l (g .cursor) (availableRectBeforeWrap (l .«main_dir») g) s)
 
+-- ---- RULES 2.13: only where the layout wraps at all
 unfoldable pub wraps : Layout → Region → Vec2 → Bool
 wraps l g s = l .«main_wrap» && overflows (l .«main_dir») (availableRectBeforeWrap (l .«main_dir») g) g s
 
+-- ---- RULES 2.15, next_frame: in the new row or column if the child wraps, else in the region as it is
 unfoldable pub nextFrame : ℕ → Layout → Region → Vec2 → Vec2 → Rect
 nextFrame k l g s sp = nextFrameIgnoreWrap k l (cond (wraps l g s) (newRegion (l .«main_dir») g s sp) g) s
 
--- ---- justify_and_align
+-- ---- RULES 2.18, justify_and_align: a justified child is at least as large as its frame
 unfoldable pub raised : Bool → Float → Float → Float
 raised b length full = cond b (atLeast length full) length
 
@@ -150,14 +160,14 @@ unfoldable pub justifyAndAlign : ℕ → Layout → Rect → Vec2 → Rect
 justifyAndAlign k l f s =
     alignSizeWithinRect k l (record { x = raised (horizontalJustify l) (s .x) (width f); y = raised (verticalJustify l) (s .y) (height f) }) f
 
--- ---- next_widget_space_ignore_wrap_justify, next_widget_position
+-- ---- RULES 2.19, next_widget_space_ignore_wrap_justify; next_widget_position is the middle of a widget of no size
 unfoldable pub nextWidgetSpaceIgnoreWrapJustify : ℕ → Layout → Region → Vec2 → Rect
 nextWidgetSpaceIgnoreWrapJustify k l g size = alignSizeWithinRect k l size (nextFrameIgnoreWrap k l g size)
 
 unfoldable pub nextWidgetPosition : ℕ → Layout → Region → Pos2
 nextWidgetPosition k l g = center (nextWidgetSpaceIgnoreWrapJustify k l g zeroVec)
 
--- ---- region_from_max_rect: min_rect is not read before it is set
+-- ---- RULES 2.20, region_from_max_rect: min_rect is one point; it is not read before it is set
 unfoldable pub regionFromMaxRect : ℕ → Layout → Rect → Region
 regionFromMaxRect k l m = record {
   «min_rect» = fromCenterSize (nextWidgetPosition k l (record { «min_rect» = m; «max_rect» = m; cursor = initialCursor (l .«main_dir») m })) zeroVec;
@@ -165,7 +175,7 @@ regionFromMaxRect k l m = record {
   cursor = initialCursor (l .«main_dir») m;
 }
 
--- ---- advance_cursor
+-- ---- RULES 2.21, advance_cursor: the starting edge moves on, and the region takes it in
 unfoldable pub advanceCursor : Direction → Region → Float → Region
 advanceCursor LeftToRight g a = expandToIncludeX (withCursor g (setLeft (g .cursor) (add binary32 (g .cursor .left) a))) (add binary32 (g .cursor .left) a)
 advanceCursor RightToLeft g a = expandToIncludeX (withCursor g (setRight (g .cursor) (sub binary32 (g .cursor .right) a))) (sub binary32 (g .cursor .right) a)
@@ -173,29 +183,31 @@ advanceCursor TopDown g a = expandToIncludeY (withCursor g (setTop (g .cursor) (
 advanceCursor BottomUp g a = expandToIncludeY (withCursor g (setBottom (g .cursor) (sub binary32 (g .cursor .bottom) a))) (sub binary32 (g .cursor .bottom) a)
 
 -- ---- advance_after_rects
--- "a wrapped advance stays in the row only if the cursor intersects the frame shrunk by 1.0"
+-- RULES 2.22: the cursor touches the frame even when that is made smaller by a point on each side
 unfoldable pub staysInRow : Rect → Rect → Bool
 staysInRow c f = intersects c (shrink f oneF)
 
--- "otherwise its NaN placeholder edge is overwritten before the call ends": by `pastWidget`
+-- RULES 2.22: a new row or column; where NaN stands `pastWidget` puts the starting edge
 unfoldable pub rowStarted : Direction → Rect → Rect
 rowStarted LeftToRight f = record { left = nan; top = f .top; right = infinity; bottom = f .bottom }
 rowStarted RightToLeft f = record { left = neg infinity; top = f .top; right = nan; bottom = f .bottom }
 rowStarted TopDown f = record { left = f .left; top = nan; right = f .right; bottom = infinity }
 rowStarted BottomUp f = record { left = f .left; top = neg infinity; right = f .right; bottom = nan }
 
--- without wrap: the cursor with the frame across
+-- RULES 2.22: without wrap: the cursor with the frame across
 unfoldable pub grownAcross : Bool → Rect → Rect → Rect
 grownAcross h c f = cond h
     (record { left = c .left; top = minF (c .top) (f .top); right = c .right; bottom = maxF (c .bottom) (f .bottom) })
     (record { left = minF (c .left) (f .left); top = c .top; right = maxF (c .right) (f .right); bottom = c .bottom })
 
+-- RULES 2.22: the row or column that the frame is in
 unfoldable pub rowFor : Layout → Rect → Rect → Rect
 rowFor l c f =
     cond (l .«main_wrap»)
     (cond (staysInRow c f) (union c f) (rowStarted (l .«main_dir») f))
     (grownAcross (isHorizontal (l .«main_dir»)) c f)
 
+-- RULES 2.23: the starting edge goes behind the widget and the spacing
 unfoldable pub pastWidget : Direction → Rect → Rect → Vec2 → Rect
 pastWidget LeftToRight c w sp = setLeft c (add binary32 (w .right) (sp .x))
 pastWidget RightToLeft c w sp = setRight c (sub binary32 (w .left) (sp .x))
@@ -205,7 +217,7 @@ pastWidget BottomUp c w sp = setBottom c (sub binary32 (w .top) (sp .y))
 unfoldable pub advanceAfterRects : Layout → Rect → Rect → Rect → Vec2 → Rect
 advanceAfterRects l c f w sp = pastWidget (l .«main_dir») (rowFor l c f) w sp
 
--- ---- end_row: "without wrap, or in directions 2 and 3, changes nothing"
+-- ---- RULES 2.24, end_row: a row below the cursor; columns have no such end, nor has a row that does not wrap
 unfoldable pub nextRow : Direction → Region → Vec2 → Region
 nextRow LeftToRight g sp = withCursor g (record { left = g .«max_rect» .left; top = add binary32 (g .cursor .bottom) (sp .y); right = infinity; bottom = add binary32 (g .cursor .bottom) (sp .y) })
 nextRow RightToLeft g sp = withCursor g (record { left = neg infinity; top = add binary32 (g .cursor .bottom) (sp .y); right = g .«max_rect» .right; bottom = add binary32 (g .cursor .bottom) (sp .y) })
@@ -215,6 +227,6 @@ nextRow BottomUp g sp = g
 unfoldable pub endRow : Layout → Region → Vec2 → Region
 endRow l g sp = cond (l .«main_wrap») (nextRow (l .«main_dir») g sp) g
 
--- ---- set_row_height
+-- ---- RULES 2.25, set_row_height: of a row that wraps
 unfoldable pub setRowHeight : Layout → Region → Float → Region
 setRowHeight l g h = cond (l .«main_wrap» && isHorizontal (l .«main_dir»)) (withCursor g (setBottom (g .cursor) (add binary32 (g .cursor .top) h))) g

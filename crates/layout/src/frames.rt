@@ -16,7 +16,7 @@ ghost use mathlib.Core.Bool.{_&&_};
 ghost use Rattle.emath.specs.Steps.{tick};
 ghost use Rattle.layout.specs.Rules.{overflows, newRow, newColumn, newCursor, reaching, newRegion, nextFrame, fillsWidth, fillsHeight, frameWidth, frameHeight, frameAlign2, movedDown, frameRect, nextFrameIgnoreWrap};
 
-// The child is longer than what is left, and the cursor is past the starting edge.
+// The child is longer than what is left, and the cursor has moved on from the starting edge.
 fn overflows_main(main_dir: Direction, available: Rect, region: Region, child_size: Vec2) -> bool
     ensures { λ b. ⌜ b ≡ overflows «main_dir» available region «child_size» ⌝ }
 {

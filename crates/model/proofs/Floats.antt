@@ -1,4 +1,4 @@
--- f32 numbers are such numbers, at every step of 1 to 1/64 point: the engine on them, with document 01's operations, follows the model.
+-- f32 numbers are such numbers, at every step of 1 to 1/64 point: the engine on them, with the operations of RULES 1, follows the model.
 -- Assumes nothing.
 use mathlib.Core.Path.{_≡_, sym}
 use Prim.Native.Nat.{ℕ, _≤_}

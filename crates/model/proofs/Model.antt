@@ -9,7 +9,7 @@ pub data Step : Type 0 where
   W : ℕ → ℕ → Step
   E : Step
 
--- Two sheets alike in everything but their controls' sizes, each control of the second at least as wide and as tall as its counterpart.
+-- RULES 10.3: the same records one by one, no control of the second smaller on either axis than the first's in its place.
 pub data Grown : List Step → List Step → Type 0 where
   none : Grown [] []
   control : {w h w′ h′ : ℕ} {k l : List Step} → w ≤ w′ → h ≤ h′ → Grown k l → Grown (W w h ∷ k) (W w′ h′ ∷ l)

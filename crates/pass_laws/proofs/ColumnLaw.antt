@@ -1,5 +1,6 @@
--- The column law: in every accepted pass of a grid sheet, with any records, any given memory, sizing or not, a column that holds cells is
--- counted in the memory given back, and exactly as wide there as the larger of the minimum and its widest control. Assumes nothing.
+-- The column law (RULES 10.7): in every accepted pass of a grid sheet, with any records, any given memory, sizing or not, the memory given
+-- back counts each column that holds cells, and has the width of its widest control for it, or the minimum where that is more. Assumes
+-- nothing.
 use Prim.Native.Nat.{ℕ, _+_, _≤_, _<_}
 use mathlib.Core.Path.{_≡_, refl, ap, sym, _∙_, subst}
 use mathlib.Core.Bool.{Bool, true, false, _||_}

@@ -1,5 +1,4 @@
--- Document 01, "The sheet": "A W's column is the number of W before it since G or the last E; a column holds cells if some W has it". And
--- demand 3: "exactly as wide as the larger of the minimum and its widest control".
+-- RULES 10.7: the controls of a grid's column, and how wide they make it.
 use mathlib.Core.Bool.{cond}
 use mathlib.Core.List.{List, [], _∷_}
 use Prim.Native.Nat.{ℕ, _+_}
@@ -9,7 +8,7 @@ use Rattle.emath.specs.Rectangles.{maxF}
 use Rattle.records.specs.declared.Step.{Step}
 use Rattle.records.specs.declared.Step.the-variants.{Widget, Space, RowHeight, MaxWidth, MaxHeight, MinWidth, MinHeight, RowEnd}
 
--- the widths of the controls in column c, where the next W has column j
+-- RULES 10.7: the widths of the controls in column c, where the next W has column j; an E goes back to column 0
 unfoldable pub inColumn : ℕ → ℕ → List Step → List Float
 inColumn c j [] = []
 inColumn c j (Widget w h ∷ rest) = cond (eqb j c) (w ∷ inColumn c (j + 1) rest) (inColumn c (j + 1) rest)
@@ -21,7 +20,7 @@ inColumn c j (MaxHeight h ∷ rest) = inColumn c j rest
 inColumn c j (MinWidth w ∷ rest) = inColumn c j rest
 inColumn c j (MinHeight h ∷ rest) = inColumn c j rest
 
--- the larger of the minimum and the widest
+-- RULES 10.7: the widest of some, or the minimum where that is more
 unfoldable pub widest : Float → List Float → Float
 widest smallest [] = smallest
 widest smallest (w ∷ ws) = maxF w (widest smallest ws)

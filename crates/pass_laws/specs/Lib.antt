@@ -1,4 +1,5 @@
--- The words of the laws about passes: whole steps, the controls of a column, where a W finds the cursor.
+-- The words of the laws about passes: whole steps (RULES 6.22), the controls of a column (RULES 10.7), where a W finds the cursor
+-- (RULES 10.8, 10.9).
 pub mod WholeSheets
 pub mod WholeCells
 pub mod Columns

@@ -1,4 +1,4 @@
--- Demand 3: "Where each W of its two passes finds the cursor's top on a whole tick". Steps are of 1 / 2 ^ k point.
+-- RULES 10.8, 10.9: whether the cursor's top is on a whole step when a W comes. Steps are of 1 / 2 ^ k point.
 use mathlib.Core.List.{List, [], _∷_}
 use mathlib.Core.Bool.{Bool}
 use Prim.Native.Nat.{ℕ}
@@ -11,7 +11,7 @@ use Rattle.records.specs.declared.Step.{Step}
 use Rattle.records.specs.declared.Step.the-variants.{Widget, Space, RowHeight, MaxWidth, MaxHeight, MinWidth, MinHeight, RowEnd}
 use Rattle.sheet.specs.Pass.{Sheet, stepped, headed, gridded}
 
--- each W among the records finds it so, from the placer p on
+-- RULES 10.8: it is at each W among the records, from the placer p on
 unfoldable pub FindsTops : ℕ → Vec2 → Placer → List Step → Type 0
 FindsTops k sp p [] = Unit {0}
 FindsTops k sp p (Widget w h ∷ rest) = Edge k (p .region .cursor .top) × FindsTops k sp (stepped k sp p (Widget w h) .placer) rest
@@ -23,11 +23,11 @@ FindsTops k sp p (MaxHeight h ∷ rest) = FindsTops k sp (stepped k sp p (MaxHei
 FindsTops k sp p (MinWidth w ∷ rest) = FindsTops k sp (stepped k sp p (MinWidth w) .placer) rest
 FindsTops k sp p (MinHeight h ∷ rest) = FindsTops k sp (stepped k sp p (MinHeight h) .placer) rest
 
--- each W of a pass over a grid sheet, with a memory or none, sizing or not
+-- RULES 10.8: each W of a pass over a grid sheet, with a memory or none, sizing or not
 abbrev pub TopsOnSteps : ℕ → Sheet → Bool → Memory → Bool → Type 0
 TopsOnSteps k s known m sizing = FindsTops k (s .heading .spacing) (gridded (s .heading) known m sizing (headed k (s .heading) .placer) .placer) (s .steps)
 
--- "as always without K"
+-- RULES 10.9: no record is a K
 pub data NoK : List Step → Type 0 where
   none : NoK []
   control : {w h : Float} {rest : List Step} → NoK rest → NoK (Widget w h ∷ rest)

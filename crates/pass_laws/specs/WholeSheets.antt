@@ -1,4 +1,4 @@
--- A sheet in whole steps of 1 / 2 ^ k point, as every text gives it in ticks.
+-- RULES 6.22: a sheet in whole steps of 1 / 2 ^ k point, as every text gives it in ticks.
 use mathlib.Core.List.{List, [], _∷_}
 use Prim.Native.Nat.{ℕ}
 use lib.Ieee.{Float}
@@ -8,7 +8,7 @@ use Rattle.records.specs.declared.Step.{Step}
 use Rattle.records.specs.declared.Step.the-variants.{Widget, Space, RowHeight, MaxWidth, MaxHeight, MinWidth, MinHeight, RowEnd}
 use Rattle.sheet.specs.Pass.{Sheet}
 
--- every length of a record is a whole number of steps
+-- RULES 6.22: every length of a record is a whole number of steps
 pub data WholeSteps (k : ℕ) : List Step → Type 0 where
   none : WholeSteps k []
   control : {w h : Float} {rest : List Step} → Edge k w → Edge k h → WholeSteps k rest → WholeSteps k (Widget w h ∷ rest)
@@ -20,7 +20,7 @@ pub data WholeSteps (k : ℕ) : List Step → Type 0 where
   minHeight : {h : Float} {rest : List Step} → Edge k h → WholeSteps k rest → WholeSteps k (MinHeight h ∷ rest)
   rowEnd : {rest : List Step} → WholeSteps k rest → WholeSteps k (RowEnd ∷ rest)
 
--- G's maximum cell may be infinite, and no rule of these asks for it
+-- RULES 6.22: and of the heading. G's maximum cell may be infinite, and these laws don't ask for it.
 pub record WholeSheet (k : ℕ) (s : Sheet) : Type 0 where
   pub rect : WholeRect k (s .heading .«max_rect»)
   pub spacing : WholeSize k (s .heading .spacing)

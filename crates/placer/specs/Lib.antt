@@ -1,5 +1,5 @@
--- placer.rs, in its order: what the calls compute; what is refused; the public calls with the refusals in front; whole
--- steps.
+-- placer.rs (RULES 4), in its order: what the calls compute; what is refused; the public calls with the refusals in front (RULES 8.17);
+-- whole steps.
 pub mod Rules
 pub mod Refusals
 pub mod Operations

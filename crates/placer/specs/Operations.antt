@@ -1,5 +1,5 @@
--- The public calls of placer.rs: the least number that applies to the arguments, or else to the answer, or else what the rule gives.
--- "Callers' states count as arguments." Where a call rounds, the step is 1 / 2 ^ k point.
+-- RULES 8.17: the public calls of placer.rs: the least number that applies to the arguments, or else to the answer, or else what the rule
+-- gives. A state that the caller hands in is an argument like the others. Where a call rounds, the step is 1 / 2 ^ k point.
 use Prim.Native.Nat.{ℕ}
 use mathlib.Core.List.{[], _∷_}
 use lib.Ieee.{Float}
@@ -21,6 +21,7 @@ use Rattle.grid.specs.declared.SavedAnswer.{SavedAnswer}
 use Rattle.placer.specs.declared.Placer.{Placer}
 use Rattle.placer.specs.declared.PlacerAnswer.{PlacerAnswer}
 
+-- ---- RULES 8.17: a placer and its grid
 unfoldable pub checkedNew : ℕ → Rect → Layout → PlacerAnswer
 checkedNew k m l = changed (rectFault m) (zeroPlacer l) (newPlacer k m l)
 
@@ -31,12 +32,14 @@ checkedSetGrid p g = changed (least (placerFault p ∷ gridFault g ∷ direction
 unfoldable pub checkedSaveGrid : Placer → SavedAnswer
 checkedSaveGrid p = savedAnswer (placerFault p) (p .grid .«prev_state») (saveGrid p)
 
+-- ---- RULES 8.17: a rectangle of the region set anew
 unfoldable pub checkedForceSetMinRect : Placer → Rect → PlacerAnswer
 checkedForceSetMinRect p m = changed (least (placerFault p ∷ rectFault m ∷ [])) p (forceSetMinRect p m)
 
 unfoldable pub checkedSetCursor : Placer → Rect → PlacerAnswer
 checkedSetCursor p c = changed (least (placerFault p ∷ cursorFault (p .layout .«main_dir») c ∷ [])) p (setCursor p c)
 
+-- ---- RULES 8.17: queries. Of each first its number, then what it answers; a frame or cell may not be inside out (RULES 8.14).
 unfoldable pub alignSizeWithinRectNumber : ℕ → Placer → Vec2 → Rect → ℕ
 alignSizeWithinRectNumber k p s o = placedNumber (least (placerFault p ∷ sizeFault s ∷ rectFault o ∷ [])) (alignSizeWithinRect k p s o)
 
@@ -73,10 +76,12 @@ justifyAndAlignNumber k p r s = placedNumber (least (placerFault p ∷ rectFault
 unfoldable pub checkedJustifyAndAlign : ℕ → Placer → Rect → Vec2 → RectAnswer
 checkedJustifyAndAlign k p r s = rectAnswer (justifyAndAlignNumber k p r s) (justifyAndAlign k p r s)
 
--- 7: "S in a grid", also by 0
+-- ---- RULES 8.17: calls that move the cursor
+-- 7 in a grid, by 0 too (RULES 8.11)
 unfoldable pub checkedAdvanceCursor : Placer → Float → PlacerAnswer
 checkedAdvanceCursor p a = changed (least (placerFault p ∷ lengthFault a ∷ when (p .«has_grid») number.notInGrid ∷ [])) p (advanceCursor p a)
 
+-- 8 in a grid that is full
 unfoldable pub checkedAdvanceAfterRects : Placer → Rect → Rect → Vec2 → PlacerAnswer
 checkedAdvanceAfterRects p f w sp =
     changed (least (placerFault p ∷ rectFault f ∷ rectFault w ∷ pairFault (sp .x) (sp .y) ∷ advanceFault p ∷ [])) p (advanceAfterRects p f w sp)
@@ -84,6 +89,7 @@ checkedAdvanceAfterRects p f w sp =
 unfoldable pub checkedEndRow : Placer → Vec2 → PlacerAnswer
 checkedEndRow p sp = changed (least (placerFault p ∷ pairFault (sp .x) (sp .y) ∷ endRowFault p ∷ [])) p (endRow p sp)
 
+-- ---- RULES 8.17: the layout's and the region's calls, in a grid too
 unfoldable pub checkedSetRowHeight : Placer → Float → PlacerAnswer
 checkedSetRowHeight p h = changed (least (placerFault p ∷ lengthFault h ∷ [])) p (setRowHeight p h)
 
@@ -102,13 +108,15 @@ nextWidgetSpaceIgnoreWrapJustifyNumber k p s = placedNumber (least (placerFault 
 unfoldable pub checkedNextWidgetSpaceIgnoreWrapJustify : ℕ → Placer → Vec2 → RectAnswer
 checkedNextWidgetSpaceIgnoreWrapJustify k p s = rectAnswer (nextWidgetSpaceIgnoreWrapJustifyNumber k p s) (nextWidgetSpaceIgnoreWrapJustify k p s)
 
--- 6: "negative … maximum width or height"
+-- ---- RULES 8.17: limits
+-- 6 for a largest width or height below zero (RULES 8.10)
 unfoldable pub checkedSetMaxWidth : ℕ → Placer → Float → PlacerAnswer
 checkedSetMaxWidth k p w = changed (least (placerFault p ∷ extentFault w ∷ [])) p (setMaxWidth k p w)
 
 unfoldable pub checkedSetMaxHeight : ℕ → Placer → Float → PlacerAnswer
 checkedSetMaxHeight k p h = changed (least (placerFault p ∷ extentFault h ∷ [])) p (setMaxHeight k p h)
 
+-- a least width or height may be below zero
 unfoldable pub checkedSetMinWidth : ℕ → Placer → Float → PlacerAnswer
 checkedSetMinWidth k p w = changed (least (placerFault p ∷ lengthFault w ∷ [])) p (setMinWidth k p w)
 

@@ -1,4 +1,4 @@
-// The numbers of document 01's "Turned back" for a placer, and the answers that carry them.
+// The numbers that a placer has (RULES 8.5, 8.12), and the answer that carries a call's (RULES 8.4).
 use crate::Placer;
 use crate::PlacerAnswer;
 use emath::faults::lesser_number;

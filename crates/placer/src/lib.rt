@@ -1,6 +1,6 @@
-// egui's placer.rs: a layout or a grid, with the region that it fills.
-// The unchecked rules are total functions, in `rules` and `limits`; `operations` holds the public calls, which refuse by document 01's
-// table with the numbers of `faults`.
+// egui's placer.rs (RULES 4): a layout or a grid, with the region that it fills.
+// The unchecked rules are total functions, in `rules` and `limits`; `operations` holds the public calls, which refuse by RULES 8.17 with
+// the numbers of `faults`.
 use grid::BareGrid;
 use grid::GridLayout;
 use grid::GridSpot;

@@ -1,4 +1,5 @@
--- The test of the table of cases is an equation: where it is passed, the rules give in every case what the paper says. Assumes nothing.
+-- The test of the table of cases (RULES 9) is an equation: where it is passed, what is found is in every case what it has to be. Assumes
+-- nothing.
 use Prim.Native.Nat.{ℕ}
 use mathlib.Core.Path.{_≡_, refl, ap}
 use mathlib.Core.Bool.{Bool, true, false, _&&_}

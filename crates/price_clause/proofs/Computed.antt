@@ -117,7 +117,7 @@ abbrev pub givenThen : List ℕ → Memory → Outcome
 givenThen text m = pass 5 (sheetIn text) true (given text m .memory) false
 
 pub record Computed : Type 0 where
-  -- document 01's cases marked P: the rules give what the paper says
+  -- the table of RULES 9 holds
   pub cases-marked-P : allHold table ≡ true
   -- the clause can be met
   pub strips : Pair (strip (pos 640) (pos 480)) (strip (pos 700) (pos 500))
@@ -161,7 +161,7 @@ computed = record {
   unsettled = (refl, refl);
 }
 
--- ---- document 01's cases, as one equation over the table
+-- ---- the cases of RULES 9, as one equation over the table
 pub cases-hold : map (λ (c : Case). c .found) table ≡ map (λ (c : Case). c .expected) table
 cases-hold = found-as-expected table (computed .cases-marked-P)
 

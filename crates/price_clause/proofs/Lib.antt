@@ -14,6 +14,6 @@ pub mod Grids
 -- The clause, of the rule and of the call.
 pub mod PriceClause
 pub mod CallClause
--- Document 01's cases.
+-- The cases of RULES 9.
 pub mod CaseTests
 pub mod Computed

@@ -1,4 +1,4 @@
--- The cases that document 01 marks P: one table, of what a text is answered with and what the paper says.
+-- RULES 9.1 to 9.7: the cases that are proved, one table of what a text is answered with and what it has to be.
 use Prim.Native.Nat.{ℕ, zero, suc, _*_}
 use mathlib.Core.Bool.{Bool, true, false, _&&_}
 use lib.Dec.{eqb}
@@ -18,9 +18,9 @@ use Rattle.sheet.specs.Ticks.{Ticks, ticks, inTicks}
 use Rattle.listing.specs.Lists.{settled, listOf}
 use Rattle.text.specs.Ascii.{ascii}
 
--- ---- what a text is answered with, as the pass that is printed leaves it over a slice of eight places for each W, in whole numbers: the
--- refusal's number and record (0: none), the plate's edges, the slice; how many columns there are, and their widths; how many rows, and their
--- heights; all in ticks
+-- ---- RULES 9.1: what a text is answered with, as the pass that is printed leaves it over a slice of eight places for each W, in whole
+-- numbers: the refusal's number and record (0: none), the plate's edges, the slice; how many columns there are, and their widths; how many
+-- rows, and their heights; all in ticks
 abbrev pub answered : List ℕ → LaidOut
 answered text = settled text (replicate (8 * widgets (records text)) (pos 0))
 
@@ -32,11 +32,12 @@ told l =
     pos (l .outcome .number) ∷ pos (l .outcome .at)
     ∷ (edges (inTicks tick (l .outcome .plate)) ++ (l .slice ++ (counted (widths (l .outcome .memory)) ++ counted (heights (l .outcome .memory)))))
 
+-- RULES 9.1: what is found beside what it has to be
 pub record Case : Type 0 where
   pub found : List ℤ
   pub expected : List ℤ
 
--- ---- the test: the same whole numbers
+-- ---- RULES 9.1: the test: the same whole numbers
 abbrev pub sameZ : ℤ → ℤ → Bool
 sameZ (pos a) (pos b) = eqb a b
 sameZ (pos a) (negsuc b) = false
@@ -49,7 +50,7 @@ sameAll [] (y ∷ ys) = false
 sameAll (x ∷ xs) [] = false
 sameAll (x ∷ xs) (y ∷ ys) = sameZ x y && sameAll xs ys
 
--- ---- records as text
+-- ---- RULES 9.1: records as text
 -- H: direction, wrap and main align, no justify, cross align 0, a max_rect from 0, the spacings; and G with start row 0
 abbrev pub heading : ℤ → ℤ → ℤ → ℤ → ℤ → ℤ → ℤ → List ℕ
 heading direction wrap align right bottom across down =
@@ -62,7 +63,7 @@ unfoldable pub times : ℕ → List ℕ → List ℕ
 times zero s = []
 times (suc n) s = s ++ times n s
 
--- ---- rectangles in ticks, results
+-- ---- RULES 9.1: rectangles in ticks, results
 abbrev pub box : ℤ → ℤ → ℤ → ℤ → Ticks
 box left top right bottom = record { left = left; top = top; right = right; bottom = bottom }
 
@@ -77,7 +78,7 @@ without-grid frames plate = pos 0 ∷ pos 0 ∷ (edges plate ++ (twiceEach frame
 abbrev pub answer-to : List ℕ → List ℤ
 answer-to text = told (answered text)
 
--- a refusal's number and record
+-- RULES 9.1: a refusal's number and record
 abbrev pub refusal-of : List ℕ → List ℤ
 refusal-of text = (pos (answered text .outcome .number) ∷ pos (answered text .outcome .at) ∷ [])
 
@@ -85,17 +86,18 @@ abbrev pub refused : ℕ → ℕ → List ℤ
 refused number at = (pos number ∷ pos at ∷ [])
 
 -- ---- the table
--- the paper's first strip
+-- RULES 9.1: the strip, as text
 abbrev pub strip : List ℕ
 strip = heading (pos 0) (pos 0) (pos 1) (pos 6400) (pos 3200) (pos 256) (pos 128) ++ (W (pos 640) (pos 320) ++ W (pos 320) (pos 480))
 
+-- RULES 9.2: what it is answered with
 abbrev pub the-strip : Case
 the-strip = record {
   found = answer-to strip;
   expected = without-grid (box (pos 0) (pos 0) (pos 640) (pos 320) ∷ box (pos 896) (pos 0) (pos 1216) (pos 480) ∷ []) (box (pos 0) (pos 0) (pos 1216) (pos 480));
 }
 
--- and the bytes of its text, and of its list
+-- RULES 9.2: and the bytes of its text, and of its list
 abbrev pub the-strip-written : Case
 the-strip-written = record {
   found = map (λ (b : ℕ). pos b) strip;
@@ -112,7 +114,7 @@ the-strip-printed = record {
       );
 }
 
--- a grid under that heading: two controls, a row end, one control
+-- RULES 9.3: a grid under that heading: two controls, a row end, one control
 abbrev pub the-grid : Case
 the-grid = record {
   found = answer-to
@@ -124,49 +126,49 @@ the-grid = record {
       ++ (pos 2 ∷ pos 640 ∷ pos 320 ∷ pos 2 ∷ pos 161 ∷ pos 160 ∷ []))))))));
 }
 
--- a control of one tick in the middle of two: each half tick rounds away from zero, so it fills them
+-- RULES 9.4: a control of one tick in the middle of two: each half tick rounds away from zero, so it fills them
 abbrev pub one-tick-centred : Case
 one-tick-centred = record {
   found = (ticks tick (roundUi tick (alignOn Center (val tick (negsuc 0)) (val tick (pos 1)) (val tick (pos 1)) .min)) ∷ ticks tick (roundUi tick (alignOn Center (val tick (negsuc 0)) (val tick (pos 1)) (val tick (pos 1)) .max)) ∷ []);
   expected = (negsuc 0 ∷ pos 1 ∷ []);
 }
 
--- half a tick above zero and half a tick below it
+-- RULES 9.4: half a tick above zero and half a tick below it
 abbrev pub half-a-tick : Case
 half-a-tick = record { found = (ticks tick (roundUi tick (val 6 (pos 1))) ∷ []); expected = (pos 1 ∷ []) }
 
 abbrev pub minus-half-a-tick : Case
 minus-half-a-tick = record { found = (ticks tick (roundUi tick (val 6 (negsuc 0))) ∷ []); expected = (negsuc 0 ∷ []) }
 
--- with wrap, two controls that fill the width exactly stay in one row
+-- RULES 9.5: with wrap, two controls that fill the width exactly stay in one row
 abbrev pub twice : Case
 twice = record {
   found = answer-to (heading (pos 0) (pos 1) (pos 0) (pos 640) (pos 3200) (pos 0) (pos 0) ++ (W (pos 320) (pos 100) ++ W (pos 320) (pos 100)));
   expected = without-grid (box (pos 0) (pos 0) (pos 320) (pos 100) ∷ box (pos 320) (pos 0) (pos 640) (pos 100) ∷ []) (box (pos 0) (pos 0) (pos 640) (pos 100));
 }
 
--- with one tick more the second goes to the next
+-- RULES 9.5: with one tick more the second goes to the next
 abbrev pub one-more : Case
 one-more = record {
   found = answer-to (heading (pos 0) (pos 1) (pos 0) (pos 640) (pos 3200) (pos 0) (pos 0) ++ (W (pos 320) (pos 100) ++ W (pos 321) (pos 100)));
   expected = without-grid (box (pos 0) (pos 0) (pos 320) (pos 100) ∷ box (pos 0) (pos 100) (pos 321) (pos 200) ∷ []) (box (pos 0) (pos 0) (pos 321) (pos 200));
 }
 
--- a control that ends at the last tick of the domain
+-- RULES 9.6: a control that ends at the last tick of the domain
 abbrev pub at-the-limit : Case
 at-the-limit = record {
   found = answer-to (heading (pos 0) (pos 0) (pos 0) (pos 0) (pos 0) (pos 0) (pos 0) ++ W (pos 2097152) (pos 0));
   expected = without-grid (box (pos 0) (pos 0) (pos 2097152) (pos 0) ∷ []) (box (pos 0) (pos 0) (pos 2097152) (pos 0));
 }
 
--- and the cursor one tick beyond it
+-- RULES 9.6: and the cursor one tick beyond it
 abbrev pub beyond-the-limit : Case
 beyond-the-limit = record {
   found = refusal-of (heading (pos 0) (pos 0) (pos 0) (pos 0) (pos 0) (pos 1) (pos 0) ++ W (pos 2097152) (pos 0));
   expected = refused number.outside 2;
 }
 
--- refusals 7 and 8: a grid that starts at the right, and one cell more than a row has
+-- RULES 9.7: refusals 7 and 8: a grid that starts at the right, and one cell more than a row has
 abbrev pub grid-from-the-right : Case
 grid-from-the-right = record {
   found = refusal-of (heading (pos 1) (pos 0) (pos 0) (pos 0) (pos 0) (pos 0) (pos 0) ++ grid (pos 0) (pos 0));
@@ -179,6 +181,7 @@ one-cell-too-many = record {
   expected = refused number.gridFull 35;
 }
 
+-- RULES 9.1: every entry of a table; and the entries
 unfoldable pub allHold : List Case → Bool
 allHold [] = true
 allHold (c ∷ rest) = sameAll (c .found) (c .expected) && allHold rest

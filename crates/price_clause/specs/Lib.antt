@@ -1,4 +1,4 @@
--- What a reader must believe of this crate: the price clause, and document 01's cases.
+-- What a reader must believe of this crate: the price clause (RULES 10.3 to 10.10), and the cases of RULES 9.
 pub mod Sheets
 pub mod PriceClause
 pub mod CallClause

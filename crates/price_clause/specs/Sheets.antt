@@ -1,4 +1,4 @@
--- The words of the price clause about two sheets, their frames and their plates.
+-- RULES 10.3, 10.4: the words of the price clause about two sheets, their frames and their plates.
 use mathlib.Core.Path.{_≡_}
 use mathlib.Core.Bool.{true, false}
 use mathlib.Core.List.{List, [], _∷_}
@@ -12,29 +12,30 @@ use Rattle.records.specs.declared.Step.the-variants.{Widget, RowEnd}
 use Rattle.sheet.specs.Pass.{Sheet}
 use Rattle.sheet.specs.Ticks.{Ticks, width, height}
 
--- ---- two sheets
+-- ---- RULES 10.3: two sheets
 -- the same records one by one, controls and row ends only, no control of the second smaller on either axis than the first's in its place
 pub data Grown : List Step → List Step → Type 0 where
   none : Grown [] []
   control : {w h w′ h′ : Float} {a b : List Step} → le w w′ ≡ true → le h h′ ≡ true → Grown a b → Grown (Widget w h ∷ a) (Widget w′ h′ ∷ b)
   rowEnd : {a b : List Step} → Grown a b → Grown (RowEnd ∷ a) (RowEnd ∷ b)
 
+-- RULES 10.3: under the same heading
 pub record GrownSheet (a b : Sheet) : Type 0 where
   pub heading : a .heading ≡ b .heading
   pub steps : Grown (a .steps) (b .steps)
 
--- neither spacing is below 0
+-- RULES 10.3: neither spacing is below 0
 pub record NoNegativeSpacing (s : Sheet) : Type 0 where
   pub across : le zeroF (s .heading .spacing .x) ≡ true
   pub down : le zeroF (s .heading .spacing .y) ≡ true
 
--- document 01's strip: the main align alone is free, every other field of its layout is 0; and there is no G
+-- RULES 10.3: a strip: the main align alone is free, every other field of its layout is 0; and there is no G
 pub record Strip (s : Sheet) : Type 0 where
   pub align : Align
   pub is : s .heading .layout ≡ strip align
   pub no-grid : s .heading .«has_grid» ≡ false
 
--- ---- frames and plates in ticks
+-- ---- RULES 10.4: frames and plates in ticks
 -- a frame b beside a frame a: neither its start nor its extent is less, on either axis
 pub record FrameNoLess (a b : Ticks) : Type 0 where
   pub left : a .left ≤ℤ b .left
@@ -42,7 +43,7 @@ pub record FrameNoLess (a b : Ticks) : Type 0 where
   pub width : width a ≤ℤ width b
   pub height : height a ≤ℤ height b
 
--- a plate has no place of its own, so of its extent alone
+-- RULES 10.4: a plate has no place of its own, so of its extent alone
 pub record PlateNoLess (a b : Ticks) : Type 0 where
   pub width : width a ≤ℤ width b
   pub height : height a ≤ℤ height b

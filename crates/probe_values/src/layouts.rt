@@ -87,7 +87,7 @@ pub fn put_region(lengths: &mut Lengths, g: Region) {
     put_rect_at(lengths, CURSOR, g.cursor);
 }
 
-// An answer's number; what it carries is written, as document 01 has it: all zero where a rectangle, position or size is refused.
+// An answer's number; what it carries is written, and all zero where a rectangle, position or size is refused (RULES 8.4).
 pub fn answer_rect(out: &mut [f32; 4], a: RectAnswer) -> u8 {
     match a {
         RectAnswer::Placed(r) => {

@@ -43,7 +43,7 @@ pub const LENGTH: usize = ITEM_SPACING + 2;
 // With room for more: contracts repeat this number.
 pub type Counts = [usize; 24];
 
-// A layout's six fields, in document 01's order.
+// A layout's six fields, in the order of RULES 2.2.
 pub const MAIN_DIR: usize = 0;
 
 pub const MAIN_WRAP: usize = MAIN_DIR + 1;

@@ -1,5 +1,5 @@
--- The state that layout, grid and placer work on, in layout.rs's order: directions; what a region computes; what is refused, and the
--- answers; Region's public calls with the refusals in front.
+-- The state that layout, grid and placer work on (RULES 2.1, 2.3), in layout.rs's order: directions; what a region computes; what is
+-- refused, and the answers (RULES 8); Region's public calls with the refusals in front; whole steps.
 pub mod Directions
 pub mod Regions
 pub mod Refusals

@@ -1,4 +1,4 @@
--- Region's public calls: the least number that applies to the arguments, or else to the answer, or else what the rule gives.
+-- RULES 8.15 for Region's public calls: the least number that applies to the arguments, or else to the answer, or else what the rule gives.
 use Prim.Native.Nat.{ℕ}
 use mathlib.Core.List.{[], _∷_}
 use lib.Ieee.{Float}
@@ -10,18 +10,20 @@ use Rattle.region.specs.declared.Direction.{Direction}
 use Rattle.region.specs.declared.Region.{Region}
 use Rattle.region.specs.declared.RegionAnswer.{RegionAnswer}
 
--- ---- the number of a call that answers a rectangle: the arguments', or else the rectangle's own; a frame may not be inside out either
+-- ---- the number of a call: the arguments', or else the answer's
+-- RULES 8.13: of a rectangle, 9 for a fault of its edges
 unfoldable pub placedNumber : ℕ → Rect → ℕ
 placedNumber before r = orElse before (outside (edgesFault r))
 
+-- RULES 8.14: of a frame, 10 too
 unfoldable pub framedNumber : ℕ → Rect → ℕ
 framedNumber before r = orElse before (frameFault r)
 
--- ---- a new region
+-- RULES 8.13: a new region, or the given one where a number applies
 unfoldable pub moved : Direction → ℕ → Region → Region → RegionAnswer
 moved d before given new = regionAnswer (orElse before (outside (regionFault d new))) given new
 
--- ---- Region: the direction says which edge of its cursor is open
+-- ---- RULES 8.15, Region: the direction says which edge of its cursor is open
 unfoldable pub checkedExpandToIncludeRect : Direction → Region → Rect → RegionAnswer
 checkedExpandToIncludeRect d g r = moved d (least (regionFault d g ∷ rectFault r ∷ [])) g (expandToIncludeRect g r)
 

@@ -1,4 +1,4 @@
--- Document 01, "Turned back", for a cursor and a region; and an answer's number and value.
+-- RULES 5.3, 8.4, 8.5: the faults of a cursor and a region; what a refused call answers; and an answer's number and value.
 use Prim.Native.Nat.{ℕ}
 use mathlib.Core.Bool.{cond}
 use mathlib.Core.List.{[], _∷_}
@@ -23,7 +23,7 @@ use Rattle.region.specs.declared.RegionAnswer.{RegionAnswer}
 use Rattle.region.specs.declared.CursorAnswer.{CursorAnswer}
 
 -- ---- the faults of a state
--- "the cursor's open edge (direction 0 right, 1 left, 2 bottom, 3 top) may be infinite outward": there it counts as 0.
+-- RULES 5.3: an open edge at its outward infinity counts as 0
 unfoldable pub excused : Float → Float → Float
 excused outward v = cond (eq v outward) zeroF v
 
@@ -33,14 +33,15 @@ closed RightToLeft c = setLeft c (excused (neg infinity) (c .left))
 closed TopDown c = setBottom c (excused infinity (c .bottom))
 closed BottomUp c = setTop c (excused (neg infinity) (c .top))
 
--- "a cursor may be" inside out
+-- RULES 8.5: of a cursor its edges count, and it may be inside out; a region has the faults of all three rectangles
 unfoldable pub cursorFault : Direction → Rect → ℕ
 cursorFault d c = edgesFault (closed d c)
 
 unfoldable pub regionFault : Direction → Region → ℕ
 regionFault d g = least (rectFault (g .«min_rect») ∷ rectFault (g .«max_rect») ∷ cursorFault d (g .cursor) ∷ [])
 
--- ---- "The call's answer is the number, an all-zero rectangle, position or size, and the state as given."
+-- ---- RULES 8.4: what a refused call answers, with its number
+-- zeros
 abbrev pub zeroRect : Rect
 zeroRect = record { left = zeroF; top = zeroF; right = zeroF; bottom = zeroF }
 
@@ -50,6 +51,7 @@ zeroPos = record { x = zeroF; y = zeroF }
 abbrev pub zeroRegion : Region
 zeroRegion = record { «min_rect» = zeroRect; «max_rect» = zeroRect; cursor = zeroRect }
 
+-- a value, or the refusal
 unfoldable pub rectAnswer : ℕ → Rect → RectAnswer
 rectAnswer n r = cond (eqb n 0) (Placed r) (Refused n)
 
@@ -59,13 +61,14 @@ posAnswer n p = cond (eqb n 0) (pos-answer.Found p) (pos-answer.Refused n)
 unfoldable pub sizeAnswer : ℕ → Vec2 → SizeAnswer
 sizeAnswer n v = cond (eqb n 0) (size-answer.Measured v) (size-answer.Refused n)
 
+-- the number, and the state that is new, or the one that was given
 unfoldable pub regionAnswer : ℕ → Region → Region → RegionAnswer
 regionAnswer n given new = record { number = n; region = cond (eqb n 0) new given }
 
 unfoldable pub cursorAnswer : ℕ → Rect → Rect → CursorAnswer
 cursorAnswer n given new = record { number = n; cursor = cond (eqb n 0) new given }
 
--- an enum's number and value, as document 01 has them
+-- RULES 8.4: an enum's number, 0 where it has a value; and its value, zeros where it is refused
 unfoldable pub rectNumber : RectAnswer → ℕ
 rectNumber (Placed r) = 0
 rectNumber (Refused n) = n
@@ -90,7 +93,7 @@ unfoldable pub sizeValue : SizeAnswer → Vec2
 sizeValue (size-answer.Measured v) = v
 sizeValue (size-answer.Refused n) = zeroVec
 
--- ---- what a call of this number has for a value: the rule's where it is 0, else all zero
+-- RULES 8.4: what a call of this number has for a value: the rule's where it is 0, else all zero
 unfoldable pub rectOrZero : ℕ → Rect → Rect
 rectOrZero n r = cond (eqb n 0) r zeroRect
 

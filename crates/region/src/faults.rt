@@ -1,4 +1,4 @@
-// The numbers of document 01's "Turned back" for a state, and the answers that carry them.
+// The numbers that a cursor and a region have (RULES 8.5), and the answers that carry a call's (RULES 8.4).
 use crate::CursorAnswer;
 use crate::Direction;
 use crate::PosAnswer;

@@ -21,7 +21,7 @@ pub struct Region {
     pub cursor: Rect,
 }
 
-// A rectangle, or the number of document 01's table by which the call is refused.
+// A rectangle, or the number (RULES 8.1) by which the call is refused.
 pub enum RectAnswer {
     Placed(Rect),
     Refused(u8),

@@ -1,2 +1,2 @@
--- What a reader must believe of this crate: what it is for a drawing to show a pass.
+-- What a reader must believe of this crate: when the numbers that a drawing takes from a list are those of a pass (RULES 7.10).
 pub mod Shown

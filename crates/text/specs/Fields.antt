@@ -1,4 +1,4 @@
--- Document 01, "The sheet": "each a whole number right-justified in 8 columns with spaces before, no leading zeros, no -0".
+-- RULES 6.2 to 6.4: a number in eight columns, as text; how it is read, and how it is written.
 use Prim.Native.Nat.{ℕ, zero, suc, _+_, _-_, _*_, _/_, _%_, _^_, max}
 use mathlib.Core.List.{List, [], _∷_}
 use mathlib.Core.Bool.{Bool, true, false, cond, _&&_}
@@ -10,7 +10,7 @@ use Rattle.text.specs.Letters as letters
 use Rattle.text.specs.declared.Field.{Field}
 use Rattle.text.specs.declared.Field.the-variants.{Blank, Number, Wrong}
 
--- ---- the text of a number
+-- ---- RULES 6.2: the text of a number
 -- the column of 10 ^ j has a digit: j is 0, or n is at least 10 ^ j
 abbrev pub shown : ℕ → ℕ → Bool
 shown n p = leb p (max n 1)
@@ -26,6 +26,7 @@ unfoldable pub columns : Bool → ℕ → ℕ → List ℕ
 columns neg n zero = []
 columns neg n (suc k) = column neg n k ∷ columns neg n k
 
+-- RULES 6.2: all eight columns of a number
 abbrev pub negative : ℤ → Bool
 negative (pos n) = false
 negative (negsuc n) = true
@@ -33,12 +34,12 @@ negative (negsuc n) = true
 abbrev pub text : ℤ → List ℕ
 text z = columns (negative z) (natAbs z) 8
 
--- a number has a text if its digits, and the minus before them, fit the columns
+-- RULES 6.2: a number has a text if its digits, and the minus before them, fit the columns
 unfoldable pub hasText : ℤ → Bool
 hasText (pos n) = ltb n 100000000
 hasText (negsuc n) = ltb n 9999999
 
--- ---- reading
+-- ---- RULES 6.3: reading
 -- one digit more, as long as there are fewer than eight
 unfoldable pub grow : ℕ → ℕ → ℕ
 grow acc b = cond (ltb 9999999 acc) acc (cond (ltb b letters.ZERO) acc (cond (ltb letters.NINE b) acc (acc * 10 + (b - letters.ZERO))))
@@ -47,6 +48,7 @@ unfoldable pub digitsFrom : ℕ → List ℕ → ℕ
 digitsFrom acc [] = acc
 digitsFrom acc (b ∷ bs) = digitsFrom (grow acc b) bs
 
+-- the same bytes; and spaces only
 unfoldable pub same : List ℕ → List ℕ → Bool
 same [] [] = true
 same [] (y ∷ ys) = false
@@ -61,7 +63,7 @@ abbrev pub pick : Bool → Field → Field → Field
 pick true a b = a
 pick false a b = b
 
--- the number whose text the columns are, its magnitude at most the limit: the digits say which it can only be
+-- RULES 6.3: the number whose text the columns are, its magnitude at most the limit: the digits say which it can only be
 unfoldable pub numberOf : ℕ → ℕ → List ℕ → Field
 numberOf limit n f =
     pick (ltb limit n) Wrong
@@ -71,11 +73,11 @@ numberOf limit n f =
 unfoldable pub field : ℕ → List ℕ → Field
 field limit f = pick (blank f) Blank (numberOf limit (digitsFrom 0 f) f)
 
--- the eight columns from a place; wrong where there are fewer
+-- RULES 6.3: the eight columns from a place; wrong where there are fewer
 unfoldable pub fieldAt : ℕ → List ℕ → ℕ → Field
 fieldAt limit s at = pick (leb (at + 8) (length s)) (field limit (take 8 (drop at s))) Wrong
 
--- ---- writing
+-- ---- RULES 6.4: writing
 -- whether it was written, and what the slice then holds: only the eight places change, and none where they are not all there or the number
 -- has no text
 unfoldable pub writtenAt : List ℕ → ℕ → ℤ → Bool × List ℕ

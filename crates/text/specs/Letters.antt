@@ -1,15 +1,15 @@
--- The bytes of a sheet and of a list: the letters of records and lines, the byte that ends both, and what fields are made of. Cited as
--- letters.NAME.
+-- RULES 6.1, 7.2: the bytes of a sheet and of a list: the letters of records and lines, the byte that ends both, and what fields are made
+-- of. Cited as letters.NAME.
 use Prim.Native.Nat.{ℕ}
 
--- what comes before the steps
+-- RULES 6.1: what comes before the steps
 abbrev pub H : ℕ
 H = 72
 
 abbrev pub G : ℕ
 G = 71
 
--- the steps
+-- RULES 6.1: the steps
 abbrev pub W : ℕ
 W = 87
 
@@ -34,7 +34,7 @@ N = 78
 abbrev pub T : ℕ
 T = 84
 
--- lines of a list, beside W: the plate, a column, a row, a refusal
+-- RULES 7.2: lines of a list, beside W: the plate, a column, a row, a refusal
 abbrev pub P : ℕ
 P = 80
 
@@ -47,10 +47,11 @@ D = 68
 abbrev pub X : ℕ
 X = 88
 
+-- RULES 6.1: what ends a record and a line
 abbrev pub LF : ℕ
 LF = 10
 
--- fields: a blank column, the minus, the first and the last digit
+-- RULES 6.2: fields: a blank column, the minus, the first and the last digit
 abbrev pub SPACE : ℕ
 SPACE = 32
 

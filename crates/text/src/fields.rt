@@ -1,4 +1,4 @@
-// A field: a whole number right-justified in eight columns, spaces before it, no leading zeros, no -0.
+// RULES 6.2 to 6.4: a whole number in eight columns, read and written.
 use crate::Field;
 use crate::short::short_number;
 ghost use mathlib.Core.Path.{_≡_};

@@ -1,5 +1,4 @@
-// A number of three or four digits, as most sizes are. No branch depends on which: from one field to the next that cannot be
-// foreseen.
+// A number of three or four digits, as most sizes are. No branch depends on which: from one field to the next it would be mispredicted.
 use crate::fields::NONE;
 ghost use mathlib.Core.Bool.{true, false, cond};
 ghost use mathlib.Core.Path.{_≡_};

@@ -1,4 +1,4 @@
-//! Calls that can be turned back: what document 01 expects of each, and how often it happened.
+//! Calls that can be refused: what RULES 8 expects of each, and how often it happened.
 
 use std::cell::Cell;
 
@@ -7,7 +7,7 @@ use crate::rng::Rng;
 use crate::tally::{Answer, Shown, Tally, Value, say};
 use crate::values::Values;
 
-/// What document 01 makes of a call.
+/// What RULES 8 makes of a call.
 pub struct Expected<V> {
     /// The number of each argument, the parts of a region or a grid apart; 0 where there is no more.
     arguments: [u8; MOST_PARTS],
@@ -15,7 +15,7 @@ pub struct Expected<V> {
     answer: u8,
     /// What the Rust answers.
     value: V,
-    /// "an all-zero rectangle, position or size, and the state as given".
+    /// RULES 8.4: zeros, or the state that was given.
     refused: V,
 }
 
@@ -50,7 +50,7 @@ impl<V: Clone> Expected<V> {
         Self::changed(numbers, answer, value, given)
     }
 
-    /// Arguments first, "in rising order"; the answer is looked at only if they have no fault.
+    /// RULES 8.2: the arguments' least; the answer is looked at only if they have no fault.
     pub fn number(&self) -> u8 {
         match faults::least(&self.arguments) {
             0 => self.answer,

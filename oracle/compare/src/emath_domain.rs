@@ -1,4 +1,4 @@
-//! Crate emath's domain and refusals beside document 01's words.
+//! Crate emath's domain and refusals beside `faults`, which follows RULES 5 and 8.
 
 use crate::faults;
 use crate::probe;

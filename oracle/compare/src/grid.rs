@@ -1,4 +1,4 @@
-//! Crate grid beside egui's grid.rs and document 01's table.
+//! Crate grid beside egui's grid.rs and the numbers of RULES 8.16.
 
 mod cells;
 mod corners;
@@ -52,7 +52,7 @@ pub struct New {
     pub start_row: usize,
 }
 
-/// "a grid of zeros", which a refused `new` gives.
+/// What a refused `new` gives: a first pass over an empty memory, every length zero.
 pub const NO_GRID: Grid = Grid {
     prev: Memory::EMPTY,
     curr: Memory::EMPTY,

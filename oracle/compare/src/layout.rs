@@ -1,4 +1,4 @@
-//! Crate layout beside egui's layout.rs and document 01's table.
+//! Crate layout beside egui's layout.rs and the numbers of RULES 8.15.
 
 mod corners;
 mod faulty;

@@ -1,5 +1,5 @@
-//! Compares the entry points of the probe crates with layout.rs, grid.rs and placer.rs, with the Rust
-//! stand-ins, with document 01's table and with a parser of its sheet.
+//! Compares the entry points of the probe crates with layout.rs, grid.rs and placer.rs, with the
+//! Rust stand-ins, with the numbers of RULES 8 and with a parser of the sheet of RULES 6.
 
 // Without placer.rs some of what the comparisons share has no use.
 #![cfg_attr(not(feature = "placer"), allow(dead_code))]

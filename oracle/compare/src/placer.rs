@@ -1,4 +1,4 @@
-//! Crate placer beside egui's placer.rs and document 01's table.
+//! Crate placer beside egui's placer.rs and the numbers of RULES 8.17.
 
 pub mod calls;
 mod corners;
@@ -56,8 +56,8 @@ impl Placer {
         }
     }
 
-    /// "Callers' states count as arguments": the region's numbers, and where there is a grid its own
-    /// and 7, "grid on direction 1 or 3".
+    /// RULES 8.5: the region's numbers, and where there is a grid its own and that of its
+    /// direction.
     pub fn numbers(&self) -> Vec<u8> {
         let mut numbers = of_region(self.l[0], &self.region).to_vec();
         if self.has_grid {

@@ -1,5 +1,5 @@
-//! A sheet's text: its fields, records, checks and lines beside a parser of document 01's own words.
-//! With placer.rs also whole passes, driven through it record by record, and the lists of them.
+//! A sheet's text: its fields, records, checks and lines beside a parser that follows RULES 6. With
+//! placer.rs also whole passes, driven through it record by record, and the lists of them.
 
 mod answers;
 #[cfg(feature = "placer")]

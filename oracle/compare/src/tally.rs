@@ -21,7 +21,7 @@ pub trait Shown {
 }
 
 pub trait Same: Shown {
-    /// The same bits, "a zero's sign aside"; any NaN is any other.
+    /// RULES 1.1: the same bits, but a zero's sign is free; any NaN is any other.
     fn same(&self, other: &Self) -> bool;
 }
 
@@ -144,7 +144,7 @@ impl<V: Shown> Shown for Answer<V> {
     }
 }
 
-/// After a refusal the state is "as given", so every bit counts.
+/// After a refusal the state is the one that was given, so every bit counts.
 impl<V: Value> Same for Answer<V> {
     fn same(&self, other: &Self) -> bool {
         let values = if self.number == 0 {

@@ -4,13 +4,13 @@ use crate::rng::Rng;
 
 pub type Edges = [f32; 4];
 
-/// A layout's six fields, as document 01 orders and numbers them.
+/// A layout's six fields, in the order and with the numbers of RULES 2.2.
 pub type Fields = [u8; 6];
 
 /// A region's edges: those of min_rect, max_rect and the cursor.
 pub type State = [f32; 12];
 
-/// Document 01's domain: "magnitude at most 65,536 points (2,097,152 ticks)".
+/// RULES 5.2.
 pub const LIMIT: f32 = 65_536.0;
 pub const LIMIT_TICKS: i32 = 2_097_152;
 pub const TICKS_PER_POINT: f32 = 32.0;

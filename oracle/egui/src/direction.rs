@@ -1,5 +1,4 @@
-/// "direction (0 LeftToRight, 1 RightToLeft, 2 TopDown, 3 BottomUp)". Not among the sources: a
-/// stand-in.
+/// RULES 2.1, by its numbers. Not among egui's three files: a stand-in.
 #[derive(Clone, Copy, Debug, PartialEq, Eq)]
 pub enum Direction {
     LeftToRight,

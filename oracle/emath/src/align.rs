@@ -15,19 +15,15 @@ pub enum Align {
 }
 
 impl Align {
-    /// "LEFT and TOP are Min, RIGHT and BOTTOM are Max".
+    /// Other names of Min and Max (RULES 1.4).
     pub const LEFT: Self = Self::Min;
     pub const TOP: Self = Self::Min;
     pub const RIGHT: Self = Self::Max;
     pub const BOTTOM: Self = Self::Max;
 
-    /// "align on an axis: Min gives low to low + size; Max gives high - size to high; Center starts
-    /// at (low + high) / 2 - size / 2 and adds size. An infinite size in an infinite range gives the
-    /// range; an infinite size centred gives both infinities."
+    /// RULES 1.13: the size stands at the low end, in the middle or at the high end of the range.
     ///
-    /// Here an infinite size is +infinity, and an infinite range one whose width, high - low, is
-    /// +infinity. The sentence could be read otherwise for a size of -infinity, which is outside
-    /// the domain, and for a range that is inside out.
+    /// Infinite is +infinity alone, of the size and of the width high - low.
     pub fn align_size_within_range(self, size: f32, range: Rangef) -> Rangef {
         let Rangef {
             min: low,
@@ -57,7 +53,7 @@ pub struct Align2 {
 }
 
 impl Align2 {
-    /// "`LEFT_CENTER`: Min across, Center down."
+    /// At the left, in the middle of the height (RULES 1.4).
     pub const LEFT_CENTER: Self = Self::new(Align::Min, Align::Center);
 
     pub const fn new(across: Align, down: Align) -> Self {
@@ -74,7 +70,7 @@ impl Align2 {
         Self { down, ..self }
     }
 
-    /// "align on an axis", on both.
+    /// RULES 1.14: on both axes.
     pub fn align_size_within_rect(self, size: Vec2, frame: Rect) -> Rect {
         let x = self.across.align_size_within_range(
             size.x,

@@ -1,6 +1,6 @@
 use crate::{Rect, pos2};
 
-/// "A tick is 1/32 point."
+/// RULES 1.2: ticks to a point.
 const TICKS_PER_POINT: f32 = 32.0;
 
 pub trait GuiRounding {
@@ -8,8 +8,8 @@ pub trait GuiRounding {
     fn round_ui(self) -> Self;
 }
 
-/// "multiply by 32, round to the nearest whole number with halves away from zero, divide by 32.
-/// Infinities stay." For any number of steps to the point; Rust's round takes halves away from zero.
+/// RULES 1.16, for any number of steps to the point. Rust's round is that of RULES 1.15 but for a
+/// zero's sign.
 pub fn round_to_steps(x: f32, per_point: f32) -> f32 {
     (x * per_point).round() / per_point
 }
@@ -20,7 +20,7 @@ impl GuiRounding for f32 {
     }
 }
 
-/// "`round_ui` on each edge".
+/// RULES 1.16: edge by edge.
 impl GuiRounding for Rect {
     fn round_ui(self) -> Self {
         Self::from_min_max(

@@ -1,9 +1,7 @@
 //! Stand-ins for the items of egui's `emath` that layout.rs, placer.rs and grid.rs use.
 //!
-//! Written from document 01's section "Rectangles", whose sentences are quoted where they are
-//! followed: "These are called but not listed in docs/src, so their meaning is given here and the
-//! oracle has the same stand-ins". Items that no sentence settles say so, and nothing compared
-//! rests on them.
+//! emath's own files are not at hand, so these are written from RULES 1, whose numbers they cite.
+//! Items of which RULES says nothing say so, and nothing compared rests on them.
 
 mod align;
 mod gui_rounding;

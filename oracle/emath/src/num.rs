@@ -1,4 +1,4 @@
-/// "at_least is max and at_most is min".
+/// RULES 1.3.
 pub trait NumExt: Sized {
     #[must_use]
     fn at_least(self, lower: Self) -> Self;
@@ -7,8 +7,7 @@ pub trait NumExt: Sized {
     fn at_most(self, upper: Self) -> Self;
 }
 
-/// "min and max: if equal, the first argument; if one is NaN, the other. Rust leaves the zero's
-/// sign open": Rust's own are taken, so which zero comes out of +0 and -0 is free here.
+/// RULES 1.3, by Rust's own, which leave open which zero comes out of +0 and -0.
 impl NumExt for f32 {
     fn at_least(self, lower: Self) -> Self {
         self.max(lower)
@@ -30,7 +29,7 @@ impl NumExt for usize {
     }
 }
 
-/// "midpoint = 0.5 × (a + b)".
+/// RULES 1.6.
 pub fn fast_midpoint(a: f32, b: f32) -> f32 {
     0.5 * (a + b)
 }

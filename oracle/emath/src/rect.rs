@@ -2,8 +2,7 @@ use std::ops::BitOrAssign;
 
 use crate::{Pos2, Vec2, pos2, vec2};
 
-/// "A rectangle is four f32 edges: left, top, right, bottom; y grows downward." The lows are in
-/// `min`, the highs in `max`, as layout.rs reads them.
+/// RULES 1.4. Left and top are in `min`, right and bottom in `max`, as layout.rs reads them.
 #[derive(Clone, Copy, Debug, PartialEq)]
 pub struct Rect {
     pub min: Pos2,
@@ -11,7 +10,7 @@ pub struct Rect {
 }
 
 impl Rect {
-    /// Document 01 gives it no meaning: layout.rs writes over it before it is read.
+    /// RULES gives it no meaning: layout.rs writes over it before it is read.
     pub const NOTHING: Self = Self {
         min: pos2(f32::INFINITY, f32::INFINITY),
         max: pos2(f32::NEG_INFINITY, f32::NEG_INFINITY),
@@ -21,12 +20,12 @@ impl Rect {
         Self { min, max }
     }
 
-    /// "`from_min_size`: low, low + size."
+    /// RULES 1.7.
     pub fn from_min_size(min: Pos2, size: Vec2) -> Self {
         Self::from_min_max(min, pos2(min.x + size.x, min.y + size.y))
     }
 
-    /// "`from_center_size`: centre less and plus 0.5 × size."
+    /// RULES 1.7.
     pub fn from_center_size(center: Pos2, size: Vec2) -> Self {
         let half = 0.5 * size;
         Self::from_min_max(
@@ -51,12 +50,12 @@ impl Rect {
         self.max.y
     }
 
-    /// "width = right - left".
+    /// RULES 1.5.
     pub fn width(&self) -> f32 {
         self.right() - self.left()
     }
 
-    /// The width's rule, downward.
+    /// RULES 1.5, downward.
     pub fn height(&self) -> f32 {
         self.bottom() - self.top()
     }
@@ -65,7 +64,7 @@ impl Rect {
         vec2(self.width(), self.height())
     }
 
-    /// "centre = (low + high) / 2".
+    /// RULES 1.6.
     pub fn center(&self) -> Pos2 {
         pos2(
             (self.left() + self.right()) / 2.0,
@@ -73,14 +72,14 @@ impl Rect {
         )
     }
 
-    /// "translate: low plus the amount, then that plus the width."
+    /// RULES 1.8.
     #[must_use]
     pub fn translate(self, amount: Vec2) -> Self {
         let low = pos2(self.min.x + amount.x, self.min.y + amount.y);
         Self::from_min_size(low, self.size())
     }
 
-    /// "shrink(1.0): low + 1, high - 1."
+    /// RULES 1.12.
     #[must_use]
     pub fn shrink(self, amount: f32) -> Self {
         Self::from_min_max(
@@ -89,7 +88,7 @@ impl Rect {
         )
     }
 
-    /// For painting, which document 01 leaves out.
+    /// For painting, which is left out (RULES 3.17).
     #[must_use]
     pub fn expand2(self, amount: Vec2) -> Self {
         Self::from_min_max(
@@ -98,7 +97,7 @@ impl Rect {
         )
     }
 
-    /// "intersect: max of lows, min of highs."
+    /// RULES 1.9.
     #[must_use]
     pub fn intersect(self, other: Self) -> Self {
         Self::from_min_max(
@@ -107,14 +106,14 @@ impl Rect {
         )
     }
 
-    /// "intersects: on both axes, this low <= other high and other low <= this high."
+    /// RULES 1.11.
     pub fn intersects(self, other: Self) -> bool {
         let across = self.min.x <= other.max.x && other.min.x <= self.max.x;
         let down = self.min.y <= other.max.y && other.min.y <= self.max.y;
         across && down
     }
 
-    /// "Extending by a value: min and max with it."
+    /// RULES 1.10.
     pub fn extend_with_x(&mut self, x: f32) {
         self.min.x = self.min.x.min(x);
         self.max.x = self.max.x.max(x);
@@ -139,7 +138,7 @@ impl Rect {
     }
 }
 
-/// "Union (`|=`): the reverse", of intersect: min of lows, max of highs.
+/// RULES 1.9, where it is called union.
 impl BitOrAssign for Rect {
     fn bitor_assign(&mut self, other: Self) {
         self.min.x = self.min.x.min(other.min.x);

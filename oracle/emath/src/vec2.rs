@@ -7,7 +7,7 @@ pub struct Vec2 {
     pub y: f32,
 }
 
-/// A position; "y grows downward".
+/// A position; a larger y is further down.
 #[derive(Clone, Copy, Debug, Default, PartialEq)]
 pub struct Pos2 {
     pub x: f32,

@@ -38,7 +38,7 @@ const COUNTS: usize = 24;
 
 pub type Counts = [usize; COUNTS];
 
-// A layout's six fields, in document 01's order.
+// A layout's six fields, in the order of RULES 2.2.
 const MAIN_DIR: usize = 0;
 const CROSS_JUSTIFY: usize = MAIN_DIR + 5;
 

@@ -11,7 +11,7 @@ mod write;
 use measure::{Times, describe, times};
 use works::Sheet;
 
-/// The Rattle's times, the Rust's, and the Rust's with document 01's checks.
+/// The Rattle's times, the Rust's, and the Rust's with the checks of RULES 8.
 type Row<'a> = [Option<&'a Times>; 3];
 
 fn show(sheet: &Sheet, what: &str, row: Row<'_>) {

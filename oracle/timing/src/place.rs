@@ -61,7 +61,7 @@ fn in_order(edges: &[f32]) -> bool {
     edges[0] <= edges[2] && edges[1] <= edges[3]
 }
 
-/// A pass in the midst of its sheet; `CHECKED` asks for document 01's numbers too.
+/// A pass in the midst of its sheet; `CHECKED` asks for the numbers of RULES 8 too.
 struct Pass<const CHECKED: bool> {
     placer: Running,
     spacing: [f32; 2],
@@ -72,7 +72,7 @@ struct Pass<const CHECKED: bool> {
 }
 
 impl<const CHECKED: bool> Pass<CHECKED> {
-    /// "an answer or new state outside the domain".
+    /// RULES 8.13, of the region.
     fn state_fits(&self) -> bool {
         let mut region = self.placer.region();
         // The cursor's open edge may be infinite outward.

@@ -6,7 +6,7 @@ const MOST_RECORDS: usize = 512;
 const LIMIT_TICKS: i32 = 2_097_152;
 const COLUMNS: usize = 8;
 
-/// "W number k, from 0, fills places 8k to 8k + 7".
+/// RULES 6.18: a control's places.
 pub const PLACES: usize = 8;
 
 #[derive(Clone, Copy)]

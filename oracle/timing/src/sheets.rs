@@ -1,6 +1,6 @@
 //! The sheets that are timed.
 
-/// "510 records".
+/// Nearly as many as a sheet may have.
 const RECORDS: usize = 510;
 
 /// A row of the grid has so many cells.

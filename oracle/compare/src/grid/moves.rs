@@ -31,7 +31,7 @@ fn of_moved(dir: u8, new: &Moved) -> u8 {
 
 pub fn new(n: &New, rust: impl FnOnce() -> Grid) -> Expected<Grid> {
     let [min_rect, max_rect, cursor] = of_region(n.dir, &n.region);
-    // "An absent memory is different from one with counts 0": it isn't read.
+    // RULES 3.2: an absent memory isn't read.
     let memory = if n.known {
         number_of_memory(&n.memory)
     } else {
@@ -102,7 +102,7 @@ pub fn advance(
 
 pub fn end_row(given: &Moved, dir: u8, rust: impl FnOnce(Rect) -> (Grid, Rect)) -> Expected<Moved> {
     let Moved { grid, cursor } = given;
-    // 8: "an end of row at row 128", at any column.
+    // RULES 8.12: 8 where no row is left, at any column.
     let others = [
         of_cursor(dir, cursor),
         of_direction(dir),
@@ -116,7 +116,7 @@ pub fn end_row(given: &Moved, dir: u8, rust: impl FnOnce(Rect) -> (Grid, Rect)) 
     })
 }
 
-/// Refused, the memory is the one given, "the save flag clear".
+/// Refused, the memory is the one given, and it is not to be saved.
 pub fn save(g: &Grid, rust: impl FnOnce() -> Saved) -> Expected<Saved> {
     let refused = Saved {
         memory: g.prev,

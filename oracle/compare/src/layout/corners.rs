@@ -1,4 +1,4 @@
-//! How often the corners that document 01 names were met, by direction.
+//! How often the corners of RULES 2 were met, by direction.
 
 use std::cell::Cell;
 
@@ -62,7 +62,7 @@ const WORDS: [(&str, &[usize]); 15] = [
 #[derive(Default)]
 pub struct Corners {
     met: [[Cell<u64>; 4]; WORDS.len()],
-    /// Calls of region_from_max_rect that go against document 01's sentence on wrap and justify.
+    /// Calls of region_from_max_rect that go against RULES 2.26.
     against: Cell<u64>,
 }
 
@@ -139,9 +139,10 @@ impl Corners {
         self.note(l, Corner::Midpoint, outside(0) || outside(1));
     }
 
-    /// Of a region_from_max_rect whose argument has no fault. Document 01's sentence on the starting
-    /// edge holds on ticks; off them direction 1 parts from it: a frame centred or justified down can
-    /// come out a float above the cursor, translate moves it, and -inf + inf is NaN across.
+    /// Of a region_from_max_rect whose argument has no fault. With wrap and main justify it passes
+    /// from the starting edge (RULES 2.26), but off the ticks direction 1 may not: a frame centred
+    /// or justified down can come out a float above the cursor, translate moves it, and -inf + inf
+    /// is NaN across.
     pub fn seed(&self, l: &Fields, max_rect: &Edges, number: u8, seed: f32) {
         let starting = [0, 2, 0, 2][usize::from(l[0])];
         let infinite = l[1] != 0 && l[3] != 0;

@@ -1,4 +1,4 @@
-//! Arguments and states with faults, so that every number of the table turns up.
+//! Arguments and states with faults, so that every number turns up.
 
 use super::states::{Draw, TICK};
 use crate::faults::OPEN;

@@ -129,7 +129,7 @@ fn made(t: &mut Tally, corners: &Corners) {
     );
 }
 
-/// "Region's" calls: the direction says which edge of the cursor is open.
+/// Region's calls: the direction says which edge of the cursor is open.
 fn expanded(t: &mut Tally) {
     let operation = |name| Operation {
         name,

@@ -1,4 +1,4 @@
-//! The calls, what document 01's table makes of each, and how the Rust is asked.
+//! The calls, the numbers that RULES 8.17 has for each, and how the Rust is asked.
 
 use egui::grid::driver::Grid;
 use egui::placer::driver::{ByLength, Running};
@@ -123,7 +123,7 @@ impl Call {
             }
             Self::NextSpace(size, spacing) => vec![of_sizes(size), of_lengths(spacing)],
             Self::NextWidgetSpaceIgnoreWrapJustify(size) => vec![of_sizes(size)],
-            // 8: "in a grid, an advance (so a W) at column 32 or row 128; an end of row at row 128".
+            // RULES 8.12: 8 in a grid that is full.
             Self::AdvanceAfterRects(frame, widget, spacing) => vec![
                 of_rect(frame),
                 of_rect(widget),
@@ -131,9 +131,9 @@ impl Call {
                 in_grid(of_room(grid.col, grid.row)),
             ],
             Self::EndRow(spacing) => vec![of_lengths(spacing), in_grid(of_room(0, grid.row))],
-            // 7: "S in a grid".
+            // RULES 8.11: 7 in a grid.
             Self::ByLength(ByLength::AdvanceCursor, x) => vec![of_lengths(&[*x]), in_grid(7)],
-            // 6: "negative ... maximum width or height".
+            // RULES 8.10: 6 for a limit below zero.
             Self::ByLength(ByLength::SetMaxWidth | ByLength::SetMaxHeight, x) => {
                 vec![of_sizes(&[*x])]
             }
@@ -141,8 +141,8 @@ impl Call {
         }
     }
 
-    /// "The call's answer is the number, an all-zero rectangle, position or size, and the state as
-    /// given"; `save_grid`'s memory is the one given, the flag clear.
+    /// RULES 8.4: zeros, or the placer that was given; `save_grid`'s memory is the one given, the
+    /// flag clear.
     fn refused(&self, p: &Placer) -> Outcome {
         match self {
             Self::AlignSizeWithinRect(..)

@@ -60,7 +60,7 @@ impl Corners {
         for ((name, _), counts) in KINDS.iter().zip(&self.accepted) {
             let counts = counts.each_ref().map(Cell::get);
             say!(t, "accepted without a grid, with one: {name}: {counts:?}");
-            // "S in a grid" never is.
+            // advance_cursor in a grid never is.
             let most = if *name == "Placer::advance_cursor" {
                 1
             } else {

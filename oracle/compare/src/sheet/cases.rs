@@ -1,4 +1,4 @@
-//! Sheets whose lists document 01 gives or settles, written out by hand: no reference made them.
+//! Sheets with their lists, those of RULES 9 first, written out by hand: no reference made them.
 
 use super::answers::Bytes;
 use super::listing::list;
@@ -13,7 +13,7 @@ pub struct Case {
     pub list: Vec<u8>,
 }
 
-/// Document 01's printed example, to the byte.
+/// RULES 9.2, to the byte.
 const STRIP: &str = "\
 H       0       0       1       0       0       0       0       0    6400    3200     256     128
 W     640     320
@@ -28,7 +28,7 @@ P       0       0    1216     480
 /// Its H.
 const HEADING: &str = "H 0 0 1 0 0 0 0 0 6400 3200 256 128\n";
 
-/// The lines of its grid.
+/// RULES 9.3, after that H.
 const GRID: &str = "G 320 160 _ _ _ 0\nW 640 160\nW 100 161\nE\nW 200 50\n";
 const GRID_LIST: &str = "\
 W 3 0 0 640 161 0 1 640 161
@@ -41,7 +41,7 @@ D 0 161
 D 1 160
 ";
 
-/// "wrap, top-aligned, max_rect 0 0 640 3200, spacing 0".
+/// RULES 9.5: a row that wraps, without spacing.
 const WRAPPED: &str = "H 0 1 0 0 0 0 0 0 640 3200 0 0\n";
 
 /// Lines whose fields stand apart by one space, put in their columns; `_` is a blank field.
@@ -72,7 +72,7 @@ fn row_ends(n: usize) -> String {
     [HEADING, &"E\n".repeat(n)].concat()
 }
 
-/// The printed example, and what its section "Cases marked P" says of lists.
+/// RULES 9.2 to 9.7, and 512 records.
 fn settled() -> Vec<Case> {
     let grid_row_32 = "W 0 0\n".repeat(32);
     vec![
@@ -121,7 +121,7 @@ fn settled() -> Vec<Case> {
     ]
 }
 
-/// The table's other examples, and its order.
+/// Other refusals, and their order.
 fn refused() -> Vec<Case> {
     let limit = "H 0 0 1 0 0 0 2097120 0 2097120 0 0 0\nG 1 0 _ _ _ 0\n";
     let grid_row_32 = "W 0 0\n".repeat(32);

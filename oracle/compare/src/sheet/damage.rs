@@ -1,4 +1,4 @@
-//! The kinds of damage that a sheet is given, and what document 01 makes of each.
+//! The kinds of damage that a sheet is given, and what RULES 8.6 and 8.7 make of each.
 
 mod bytes;
 mod columns;

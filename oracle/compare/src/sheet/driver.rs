@@ -1,4 +1,4 @@
-//! One pass over a sheet as document 01's table of records has it, driven through placer.rs.
+//! One pass over a sheet as RULES 6.12 to 6.20 have it, driven through placer.rs.
 
 use egui::grid::driver::Memory;
 use egui::placer::driver::{ByLength, Running};
@@ -194,7 +194,7 @@ impl<'a> Pass<'a> {
     }
 }
 
-/// "all other places keep what they held before that pass".
+/// RULES 6.18, 8.19: no other place is written.
 fn on_top(written: &[i32], before: &[i32]) -> Vec<i32> {
     [written, &before[written.len()..]].concat()
 }

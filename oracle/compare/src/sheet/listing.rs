@@ -11,7 +11,7 @@ use crate::values::TICKS_PER_POINT;
 pub struct Listed {
     pub bytes: Vec<u8>,
     pub passed: Passed,
-    /// "a sheet with G twice", if the first pass is accepted.
+    /// 2 with G, if the first pass is accepted.
     pub passes: usize,
 }
 
@@ -19,8 +19,7 @@ pub fn has_grid(text: &[u8]) -> bool {
     lines(text).nth(1).is_some_and(|line| line[0] == b'G')
 }
 
-/// "The program runs a sheet with G twice over one slice, the first pass without memory, the second
-/// using the first's memory and not sizing".
+/// RULES 7.1: with G a second pass over what the first left in the slice, with its memory.
 fn printed(text: &[u8]) -> (Passed, usize) {
     let first = Given {
         text: text.to_vec(),
@@ -54,7 +53,7 @@ fn put(list: &mut Vec<u8>, letter: u8, numbers: &[i32]) {
     list.extend(line(letter, numbers).expect("a length in the domain has a text"));
 }
 
-/// "C index width per column, then D index height per row ... indexes from 0".
+/// RULES 7.5: C for each column, then D for each row.
 fn put_memory(list: &mut Vec<u8>, memory: &Memory) {
     let [columns, rows] = memory.counts;
     for (letter, entries) in [
@@ -67,7 +66,7 @@ fn put_memory(list: &mut Vec<u8>, memory: &Memory) {
     }
 }
 
-/// "W record number and eight edges; P the plate's edges".
+/// RULES 7.4, 7.5: W for each control, then P.
 fn put_rects(list: &mut Vec<u8>, text: &[u8], passed: &Passed) {
     let records = lines(text).zip(1..).filter(|(line, _)| line[0] == b'W');
     for ((_, record), edges) in records.zip(passed.out.chunks(PLACES)) {

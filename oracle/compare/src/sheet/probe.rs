@@ -1,5 +1,5 @@
-//! The entry points for a sheet's text, by the names they have in crates/probe. A slice goes there
-//! as a pointer and a length, and a bool comes back as a byte.
+//! The entry points of crates probe_records, probe_sheet and probe_listing, by the names they have
+//! there. A slice goes there as a pointer and a length, and a bool comes back as a byte.
 
 #[cfg(feature = "placer")]
 use packing::{Counts, Lengths, Packed};

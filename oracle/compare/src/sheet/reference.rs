@@ -1,16 +1,16 @@
-//! A sheet's text as document 01's section "The sheet" has it, and numbers 1 to 3 of its table.
+//! A sheet's text by RULES 6.1 to 6.11, and numbers 1 to 3 by RULES 8.6 to 8.8.
 
 use std::ops::RangeInclusive;
 
 use crate::values::{LIMIT_TICKS, TICKS_PER_POINT};
 
-/// "right-justified in 8 columns".
+/// RULES 6.2: a field's columns.
 pub const COLUMNS: usize = 8;
 
-/// "at most 512 records".
+/// RULES 6.11.
 pub const MOST_RECORDS: usize = 512;
 
-/// "W number k, from 0, fills places 8k to 8k + 7".
+/// RULES 6.18: a control's places.
 pub const PLACES: usize = 8;
 
 pub enum Field {
@@ -89,7 +89,7 @@ impl Fields<'_> {
         self.length_or_blank()?
     }
 
-    /// "maximum width and height (blank: infinite)".
+    /// RULES 6.9: a bound of the cell, none where it is blank.
     fn max_length(&mut self) -> Option<f32> {
         Some(self.length_or_blank()?.unwrap_or(f32::INFINITY))
     }

@@ -96,7 +96,7 @@ impl Theme {
     }
 }
 
-/// Each theme's name and sheets; document 01's own cases come first.
+/// Each theme's name and sheets; the cases written out by hand come first.
 pub fn themes() -> Vec<(&'static str, Vec<Sheet>)> {
     let sheets = cases().into_iter().map(|case| Sheet {
         name: format!("cases: {}", case.name),

@@ -8,7 +8,7 @@ use native.Mathlib.Nat.{mul-le-mul}
 use lib.Dec.{T, leb, eqb, lit≤}
 use lib.ListN.{length}
 use Rattle.drawing.specs.Pieces.{Put, emits, marked, next, filled, joined}
-use Rattle.drawing.specs.Pages.{Fair, isLine, linesFrom, pageFor, pageWidth, pageHeight}
+use Rattle.drawing.specs.Pages.{InBounds, isLine, linesFrom, pageFor, pageWidth, pageHeight}
 use Rattle.drawing.specs.Drawings.{columnLines, rowLines, control, outlines, window, wholeWindow, windows, captions, label, labels, widgetRow, plateRow, columnRow, rowRow, one, each, seen, flat, covers}
 use Rattle.drawing.specs.Pictures.{style, head, points, title, gridded, shapes, widthLine, heightLine, dimensions, scaleLine, scale, picture, key, accepted, reason, numberOf, refusal, drawnFrom, pieces, drawing, drawnIn}
 use Rattle.drawing.specs.declared.Page.{Page}
@@ -160,7 +160,7 @@ module _ (p : Page) (s : List ℕ) where
   unfolding scale scaleLine most taken marked next
   scale-size = both _ _ {m = 102} {n = 48} (fill _ _ _ _ tt) (both _ _ {m = 23} {n = 25} (points-size _) (fill _ _ _ _ tt))
 
-  picture-size : Fair p → size (picture p s) ≤ 156923 + (3256 + (1518 + (31744 + 150)))
+  picture-size : InBounds p → size (picture p s) ≤ 156923 + (3256 + (1518 + (31744 + 150)))
   unfolding picture
   picture-size f =
       both _ _ (shapes-size (f .widgets))
@@ -168,7 +168,7 @@ module _ (p : Page) (s : List ℕ) where
       (both _ _ (dimensions-size (f .bands) _ refl)
       (both _ _ (layer-size Labels _ 512 (f .widgets)) scale-size)))
 
-  key-size : Fair p → size (key p s) ≤ 197 + (79360 + (110 + (2944 + (11776 + 7))))
+  key-size : InBounds p → size (key p s) ≤ 197 + (79360 + (110 + (2944 + (11776 + 7))))
   unfolding key plateRow most taken marked next
   key-size f =
       both _ _ {m = 197} {n = 94197} (fill _ _ _ _ tt)
@@ -177,7 +177,7 @@ module _ (p : Page) (s : List ℕ) where
       (both _ _ {m = 2944} {n = 11783} (layer-size ColumnRows _ 32 (f .columns))
       (both _ _ {m = 11776} {n = 7} (layer-size RowRows _ 128 (f .rows)) (fill _ _ _ _ tt)))))
 
-  accepted-size : Fair p → size (accepted p s) ≤ 300000
+  accepted-size : InBounds p → size (accepted p s) ≤ 300000
   unfolding accepted
   accepted-size f =
       let l : size (head s (pageWidth p) (pageHeight p) ++ (title p s ++ (picture p s ++ key p s))) ≤ 833 + (261 + (193591 + 94394)) = both _ _ (head-size _ _) (both _ _ title-size (both _ _ (picture-size f) (key-size f))) in
@@ -209,12 +209,12 @@ refusal-size s line =
     (both _ _ {m = 78} {n = 15} (words-size s (numberOf s line)) (fill _ _ _ _ tt)))
 
 -- ---- the whole
-drawn-by : (s : List ℕ) (w : ℕ) → Fair (pageFor s w) → (b : Bool) → isLine 80 34 s (74 * w) ≡ b → size (drawnFrom s w) ≤ 300000
+drawn-by : (s : List ℕ) (w : ℕ) → InBounds (pageFor s w) → (b : Bool) → isLine 80 34 s (74 * w) ≡ b → size (drawnFrom s w) ≤ 300000
 unfolding drawnFrom
 drawn-by s w f true e = rw e (accepted-size (pageFor s w) s f)
 drawn-by s w f false e = let l = refusal-size s (74 * w) in rw e (omega (arith, l))
 
--- a list has at most 512 W lines, and its page is fair
+-- a list has at most 512 W lines, and its page is bounds
 pub drawing-size : (s : List ℕ) → length (drawing s) ≤ 300000
 unfolding drawing pieces
 drawing-size s = drawn-by s (linesFrom 512 87 74 s 0) (page-fair s (linesFrom 512 87 74 s 0) (lines-few 512 87 74 s 0)) _ refl

@@ -1,8 +1,8 @@
 -- The laws of a drawing, in the order of the argument.
-pub mod Pieces
+mod Pieces
 pub mod Numbers
-pub mod Ruling
-pub mod Layers
-pub mod Room
+mod Ruling
+mod Layers
+mod Room
 pub mod Sizes
-pub mod Lengths
+mod Lengths

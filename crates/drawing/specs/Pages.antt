@@ -80,7 +80,7 @@ unfoldable pub pageFor : List ℕ → ℕ → Page
 pageFor s widgets = ruled widgets (columnsOf s widgets) (rowsOf s widgets (columnsOf s widgets)) (span s (74 * widgets) 0 2) (span s (74 * widgets) 1 3)
 
 -- no number of a page is too large to reckon with
-pub record Fair (p : Page) : Type 0 where
+pub record InBounds (p : Page) : Type 0 where
   pub widgets : p .widgets ≤ 512
   pub columns : p .columns ≤ 32
   pub rows : p .rows ≤ 128

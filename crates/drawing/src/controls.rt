@@ -8,7 +8,7 @@ use crate::pages::px;
 use crate::pages::times;
 ghost use mathlib.Core.Path.{_≡_};
 ghost use Prim.Native.Nat.{_+_, _*_, _≤_, _<_};
-ghost use Rattle.drawing.specs.Pages.{Fair};
+ghost use Rattle.drawing.specs.Pages.{InBounds};
 ghost use Rattle.drawing.specs.Drawings.{middle as middleOf, across as acrossOf, down as downOf, covers as coversBy, distance as distanceOf, near as nearBy, touching as touchingAt, sameFields, shares as sharesIt, seen as seenBy, flat as flatAt, labelAcross, labelDown};
 
 fn middle(list: &[u8], line: usize, i: usize, j: usize, from: usize) -> usize
@@ -22,7 +22,7 @@ fn middle(list: &[u8], line: usize, i: usize, j: usize, from: usize) -> usize
 
 // A control's middle, from the plate's left edge.
 fn across(page: Page, list: &[u8], k: usize) -> usize
-    requires { ⌜ Fair page ⌝ }
+    requires { ⌜ InBounds page ⌝ }
     requires { ⌜ k ≤ 512 ⌝ }
     ensures { λ r. ⌜ (r ≡ acrossOf page (now (list .entry)) k) × (r ≤ 20000000) ⌝ }
 {
@@ -32,7 +32,7 @@ fn across(page: Page, list: &[u8], k: usize) -> usize
 
 // From its top.
 fn down(page: Page, list: &[u8], k: usize) -> usize
-    requires { ⌜ Fair page ⌝ }
+    requires { ⌜ InBounds page ⌝ }
     requires { ⌜ k ≤ 512 ⌝ }
     ensures { λ r. ⌜ (r ≡ downOf page (now (list .entry)) k) × (r ≤ 20000000) ⌝ }
 {
@@ -57,7 +57,7 @@ fn distance(a: usize, b: usize) -> usize
 }
 
 fn near(page: Page, list: &[u8], j: usize, k: usize, width: usize, height: usize) -> bool
-    requires { ⌜ Fair page ⌝ }
+    requires { ⌜ InBounds page ⌝ }
     requires { ⌜ (j ≤ 512) × (k ≤ 512) ⌝ }
     ensures { λ r. ⌜ r ≡ nearBy page (now (list .entry)) j k width height ⌝ }
 {
@@ -71,7 +71,7 @@ fn near(page: Page, list: &[u8], j: usize, k: usize, width: usize, height: usize
 
 // Whether the labels of two controls would touch; those of two small ones are small.
 fn touching(page: Page, list: &[u8], j: usize, k: usize) -> bool
-    requires { ⌜ Fair page ⌝ }
+    requires { ⌜ InBounds page ⌝ }
     requires { ⌜ (j ≤ 512) × (k ≤ 512) ⌝ }
     ensures { λ r. ⌜ r ≡ touchingAt page (now (list .entry)) j k ⌝ }
 {
@@ -91,7 +91,7 @@ fn same_fields(list: &[u8], j: usize, k: usize, i: usize) -> bool
 }
 
 fn shares(what: Shared, page: Page, list: &[u8], j: usize, k: usize) -> bool
-    requires { ⌜ Fair page ⌝ }
+    requires { ⌜ InBounds page ⌝ }
     requires { ⌜ (j ≤ 512) × (k ≤ 512) ⌝ }
     ensures { λ r. ⌜ r ≡ sharesIt what page (now (list .entry)) j k ⌝ }
 {
@@ -104,7 +104,7 @@ fn shares(what: Shared, page: Page, list: &[u8], j: usize, k: usize) -> bool
 
 // Whether an earlier control shares it with control k.
 pub fn seen(what: Shared, page: Page, list: &[u8], k: usize) -> bool
-    requires { ⌜ Fair page ⌝ }
+    requires { ⌜ InBounds page ⌝ }
     requires { ⌜ k ≤ 512 ⌝ }
     ensures { λ r. ⌜ r ≡ seenBy what page (now (list .entry)) k k ⌝ }
 {
@@ -129,7 +129,7 @@ pub fn flat(list: &[u8], k: usize) -> bool
 }
 
 pub fn label_across(page: Page, list: &[u8], k: usize) -> usize
-    requires { ⌜ Fair page ⌝ }
+    requires { ⌜ InBounds page ⌝ }
     requires { ⌜ k ≤ 512 ⌝ }
     ensures { λ r. ⌜ r ≡ labelAcross page (now (list .entry)) k ⌝ }
 {
@@ -142,7 +142,7 @@ pub fn label_across(page: Page, list: &[u8], k: usize) -> usize
 }
 
 pub fn label_down(page: Page, list: &[u8], k: usize) -> usize
-    requires { ⌜ Fair page ⌝ }
+    requires { ⌜ InBounds page ⌝ }
     requires { ⌜ k ≤ 512 ⌝ }
     ensures { λ r. ⌜ (r ≡ labelDown page (now (list .entry)) k) × (r ≤ 700000000000000000) ⌝ }
 {

@@ -13,12 +13,12 @@ use crate::writing::put_filled;
 ghost use mathlib.Core.Path.{_≡_};
 ghost use Prim.Native.Nat.{_+_, _*_, _≤_};
 ghost use Rattle.drawing.specs.Pieces.{emits};
-ghost use Rattle.drawing.specs.Pages.{Fair};
+ghost use Rattle.drawing.specs.Pages.{InBounds};
 ghost use Rattle.drawing.specs.Drawings.{columnLines, rowLines, control, outlines, window, windows, captions, label, labels};
 
 // A column's edges, unless an earlier control had them.
 pub fn put_column_lines(out: &mut [u8], at: usize, page: Page, list: &[u8], k: usize) -> usize
-    requires { ⌜ Fair page ⌝ }
+    requires { ⌜ InBounds page ⌝ }
     requires { ⌜ k ≤ 512 ⌝ }
     ensures { λ r. ⌜ record { at = r; out = now (out .exit) } ≡ emits (columnLines page (now (list .entry)) k) (record { at = at; out = now (out .entry) }) ⌝ }
 {
@@ -36,7 +36,7 @@ pub fn put_column_lines(out: &mut [u8], at: usize, page: Page, list: &[u8], k: u
 }
 
 pub fn put_row_lines(out: &mut [u8], at: usize, page: Page, list: &[u8], k: usize) -> usize
-    requires { ⌜ Fair page ⌝ }
+    requires { ⌜ InBounds page ⌝ }
     requires { ⌜ k ≤ 512 ⌝ }
     ensures { λ r. ⌜ record { at = r; out = now (out .exit) } ≡ emits (rowLines page (now (list .entry)) k) (record { at = at; out = now (out .entry) }) ⌝ }
 {
@@ -54,7 +54,7 @@ pub fn put_row_lines(out: &mut [u8], at: usize, page: Page, list: &[u8], k: usiz
 }
 
 fn put_control(out: &mut [u8], at: usize, page: Page, list: &[u8], k: usize) -> usize
-    requires { ⌜ Fair page ⌝ }
+    requires { ⌜ InBounds page ⌝ }
     requires { ⌜ k ≤ 512 ⌝ }
     ensures { λ r. ⌜ record { at = r; out = now (out .exit) } ≡ emits (control page (now (list .entry)) k) (record { at = at; out = now (out .entry) }) ⌝ }
 {
@@ -80,7 +80,7 @@ fn put_control(out: &mut [u8], at: usize, page: Page, list: &[u8], k: usize) -> 
 }
 
 pub fn put_outlines(out: &mut [u8], at: usize, page: Page, list: &[u8], k: usize) -> usize
-    requires { ⌜ Fair page ⌝ }
+    requires { ⌜ InBounds page ⌝ }
     requires { ⌜ k ≤ 512 ⌝ }
     ensures { λ r. ⌜ record { at = r; out = now (out .exit) } ≡ emits (outlines page (now (list .entry)) k) (record { at = at; out = now (out .entry) }) ⌝ }
 {
@@ -97,7 +97,7 @@ pub fn put_outlines(out: &mut [u8], at: usize, page: Page, list: &[u8], k: usize
 
 // Band i of the plate.
 fn put_window(out: &mut [u8], at: usize, page: Page, list: &[u8], i: usize) -> usize
-    requires { ⌜ Fair page ⌝ }
+    requires { ⌜ InBounds page ⌝ }
     requires { ⌜ i ≤ 512 ⌝ }
     ensures { λ r. ⌜ record { at = r; out = now (out .exit) } ≡ emits (window page (now (list .entry)) i) (record { at = at; out = now (out .entry) }) ⌝ }
 {
@@ -128,7 +128,7 @@ fn put_window(out: &mut [u8], at: usize, page: Page, list: &[u8], i: usize) -> u
 }
 
 pub fn put_windows(out: &mut [u8], at: usize, page: Page, list: &[u8], i: usize) -> usize
-    requires { ⌜ Fair page ⌝ }
+    requires { ⌜ InBounds page ⌝ }
     requires { ⌜ i ≤ 512 ⌝ }
     ensures { λ r. ⌜ record { at = r; out = now (out .exit) } ≡ emits (windows page (now (list .entry)) i) (record { at = at; out = now (out .entry) }) ⌝ }
 {
@@ -147,7 +147,7 @@ pub fn put_windows(out: &mut [u8], at: usize, page: Page, list: &[u8], i: usize)
 }
 
 pub fn put_caption(out: &mut [u8], at: usize, page: Page, list: &[u8], i: usize) -> usize
-    requires { ⌜ Fair page ⌝ }
+    requires { ⌜ InBounds page ⌝ }
     requires { ⌜ i ≤ 512 ⌝ }
     ensures { λ r. ⌜ record { at = r; out = now (out .exit) } ≡ emits (captions page (now (list .entry)) i) (record { at = at; out = now (out .entry) }) ⌝ }
 {
@@ -177,7 +177,7 @@ pub fn put_caption(out: &mut [u8], at: usize, page: Page, list: &[u8], i: usize)
 
 // The number of a control's record, as large as the control allows.
 fn put_label(out: &mut [u8], at: usize, page: Page, list: &[u8], k: usize) -> usize
-    requires { ⌜ Fair page ⌝ }
+    requires { ⌜ InBounds page ⌝ }
     requires { ⌜ k ≤ 512 ⌝ }
     ensures { λ r. ⌜ record { at = r; out = now (out .exit) } ≡ emits (label page (now (list .entry)) k) (record { at = at; out = now (out .entry) }) ⌝ }
 {
@@ -217,7 +217,7 @@ fn put_label(out: &mut [u8], at: usize, page: Page, list: &[u8], k: usize) -> us
 }
 
 pub fn put_labels(out: &mut [u8], at: usize, page: Page, list: &[u8], k: usize) -> usize
-    requires { ⌜ Fair page ⌝ }
+    requires { ⌜ InBounds page ⌝ }
     requires { ⌜ k ≤ 512 ⌝ }
     ensures { λ r. ⌜ record { at = r; out = now (out .exit) } ≡ emits (labels page (now (list .entry)) k) (record { at = at; out = now (out .entry) }) ⌝ }
 {

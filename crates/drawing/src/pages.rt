@@ -4,7 +4,7 @@ use crate::lists::count_lines;
 use crate::lists::span;
 ghost use mathlib.Core.Path.{_≡_};
 ghost use Prim.Native.Nat.{_+_, _*_, _/_, _%_, _≤_, _<_, max, min};
-ghost use Rattle.drawing.specs.Pages.{bandsFrom, sizeOf, scaled as scaledBy, cut as cutInto, ruled as ruledBy, pageFor, Fair, px as pxOf, thickness as thicknessOf, bottom as bottomOf, pageWidth, perColumn, rowAcross, rowDown, pageHeight, barFrom};
+ghost use Rattle.drawing.specs.Pages.{bandsFrom, sizeOf, scaled as scaledBy, cut as cutInto, ruled as ruledBy, pageFor, InBounds, px as pxOf, thickness as thicknessOf, bottom as bottomOf, pageWidth, perColumn, rowAcross, rowDown, pageHeight, barFrom};
 
 pub fn greater(a: usize, b: usize) -> usize
     ensures { λ r. ⌜ r ≡ max a b ⌝ }
@@ -91,7 +91,7 @@ fn cut(
 
 fn ruled(widgets: usize, columns: usize, rows: usize, width: usize, height: usize) -> Page
     requires { ⌜ (widgets ≤ 512) × (columns ≤ 32) × (rows ≤ 128) × (width ≤ 20000000) × (height ≤ 20000000) ⌝ }
-    ensures { λ r. ⌜ (r ≡ ruledBy widgets columns rows width height) × Fair r ⌝ }
+    ensures { λ r. ⌜ (r ≡ ruledBy widgets columns rows width height) × InBounds r ⌝ }
 {
     let long = greater(width, height);
     let short = lesser(width, height);
@@ -102,7 +102,7 @@ fn ruled(widgets: usize, columns: usize, rows: usize, width: usize, height: usiz
 // The page of a list with so many W lines.
 pub fn page_for(list: &[u8], widgets: usize) -> Page
     requires { ⌜ widgets ≤ 512 ⌝ }
-    ensures { λ r. ⌜ (r ≡ pageFor (now (list .entry)) widgets) × Fair r ⌝ }
+    ensures { λ r. ⌜ (r ≡ pageFor (now (list .entry)) widgets) × InBounds r ⌝ }
 {
     let plate = 74 * widgets;
     let columns = count_lines(list, plate + 34, b'C', 18, 32);
@@ -120,14 +120,14 @@ pub fn px(page: Page, d: usize) -> usize
 }
 
 pub fn thickness(page: Page) -> usize
-    requires { ⌜ Fair page ⌝ }
+    requires { ⌜ InBounds page ⌝ }
     ensures { λ r. ⌜ (r ≡ thicknessOf page) × (r ≤ 20000001000) ⌝ }
 {
     page.unit * 1000 / size_of(page.large)
 }
 
 pub fn bottom(page: Page) -> usize
-    requires { ⌜ Fair page ⌝ }
+    requires { ⌜ InBounds page ⌝ }
     ensures { λ r. ⌜ (r ≡ bottomOf page) × (108 ≤ r) × (r ≤ 640000000800000108) ⌝ }
 {
     if page.wide {
@@ -137,7 +137,7 @@ pub fn bottom(page: Page) -> usize
 }
 
 pub fn page_width(page: Page) -> usize
-    requires { ⌜ Fair page ⌝ }
+    requires { ⌜ InBounds page ⌝ }
     ensures { λ r. ⌜ r ≡ pageWidth page ⌝ }
 {
     let size = size_of(page.large);
@@ -148,14 +148,14 @@ pub fn page_width(page: Page) -> usize
 }
 
 fn per_column(page: Page) -> usize
-    requires { ⌜ Fair page ⌝ }
+    requires { ⌜ InBounds page ⌝ }
     ensures { λ r. ⌜ (r ≡ perColumn page) × (0 < r) × (r ≤ 400) ⌝ }
 {
     (page.widgets + page.columns + page.rows + 2) / 2
 }
 
 pub fn row_across(page: Page, i: usize) -> usize
-    requires { ⌜ Fair page ⌝ }
+    requires { ⌜ InBounds page ⌝ }
     requires { ⌜ i ≤ 2000 ⌝ }
     ensures { λ r. ⌜ r ≡ rowAcross page i ⌝ }
 {
@@ -163,14 +163,14 @@ pub fn row_across(page: Page, i: usize) -> usize
 }
 
 pub fn row_down(page: Page, i: usize) -> usize
-    requires { ⌜ Fair page ⌝ }
+    requires { ⌜ InBounds page ⌝ }
     ensures { λ r. ⌜ r ≡ rowDown page i ⌝ }
 {
     bottom(page) + 72 + 14 * (i % per_column(page))
 }
 
 pub fn page_height(page: Page) -> usize
-    requires { ⌜ Fair page ⌝ }
+    requires { ⌜ InBounds page ⌝ }
     ensures { λ r. ⌜ r ≡ pageHeight page ⌝ }
 {
     bottom(page) + 100 + 14 * per_column(page)

@@ -18,11 +18,11 @@ ghost use mathlib.Core.Path.{_≡_};
 ghost use mathlib.Core.List.{[]};
 ghost use Prim.Native.Nat.{_*_, _≤_};
 ghost use Rattle.drawing.specs.Pieces.{emits, filled};
-ghost use Rattle.drawing.specs.Pages.{Fair};
+ghost use Rattle.drawing.specs.Pages.{InBounds};
 ghost use Rattle.drawing.specs.Pictures.{accepted, reason, numberOf, refusal, drawnFrom, drawnIn};
 
 fn put_accepted(out: &mut [u8], at: usize, page: Page, list: &[u8]) -> usize
-    requires { ⌜ Fair page ⌝ }
+    requires { ⌜ InBounds page ⌝ }
     ensures { λ r. ⌜ record { at = r; out = now (out .exit) } ≡ emits (accepted page (now (list .entry))) (record { at = at; out = now (out .entry) }) ⌝ }
 {
     let first = put_head(out, at, list, page_width(page), page_height(page));

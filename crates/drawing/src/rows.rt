@@ -13,11 +13,11 @@ use crate::writing::put_filled;
 ghost use mathlib.Core.Path.{_≡_};
 ghost use Prim.Native.Nat.{_+_, _*_, _≤_};
 ghost use Rattle.drawing.specs.Pieces.{emits};
-ghost use Rattle.drawing.specs.Pages.{Fair};
+ghost use Rattle.drawing.specs.Pages.{InBounds};
 ghost use Rattle.drawing.specs.Drawings.{widgetRow, plateRow, columnRow, rowRow, one, each};
 
 fn put_widget_row(out: &mut [u8], at: usize, page: Page, list: &[u8], k: usize) -> usize
-    requires { ⌜ Fair page ⌝ }
+    requires { ⌜ InBounds page ⌝ }
     requires { ⌜ k ≤ 512 ⌝ }
     ensures { λ r. ⌜ record { at = r; out = now (out .exit) } ≡ emits (widgetRow page (now (list .entry)) k) (record { at = at; out = now (out .entry) }) ⌝ }
 {
@@ -33,7 +33,7 @@ fn put_widget_row(out: &mut [u8], at: usize, page: Page, list: &[u8], k: usize) 
 }
 
 pub fn put_plate_row(out: &mut [u8], at: usize, page: Page, list: &[u8]) -> usize
-    requires { ⌜ Fair page ⌝ }
+    requires { ⌜ InBounds page ⌝ }
     ensures { λ r. ⌜ record { at = r; out = now (out .exit) } ≡ emits (plateRow page (now (list .entry))) (record { at = at; out = now (out .entry) }) ⌝ }
 {
     let i = page.widgets;
@@ -49,7 +49,7 @@ pub fn put_plate_row(out: &mut [u8], at: usize, page: Page, list: &[u8]) -> usiz
 }
 
 fn put_column_row(out: &mut [u8], at: usize, page: Page, list: &[u8], k: usize) -> usize
-    requires { ⌜ Fair page ⌝ }
+    requires { ⌜ InBounds page ⌝ }
     requires { ⌜ k ≤ 512 ⌝ }
     ensures { λ r. ⌜ record { at = r; out = now (out .exit) } ≡ emits (columnRow page (now (list .entry)) k) (record { at = at; out = now (out .entry) }) ⌝ }
 {
@@ -67,7 +67,7 @@ fn put_column_row(out: &mut [u8], at: usize, page: Page, list: &[u8], k: usize) 
 }
 
 fn put_row_row(out: &mut [u8], at: usize, page: Page, list: &[u8], k: usize) -> usize
-    requires { ⌜ Fair page ⌝ }
+    requires { ⌜ InBounds page ⌝ }
     requires { ⌜ k ≤ 512 ⌝ }
     ensures { λ r. ⌜ record { at = r; out = now (out .exit) } ≡ emits (rowRow page (now (list .entry)) k) (record { at = at; out = now (out .entry) }) ⌝ }
 {
@@ -85,7 +85,7 @@ fn put_row_row(out: &mut [u8], at: usize, page: Page, list: &[u8], k: usize) -> 
 }
 
 fn put_one(out: &mut [u8], at: usize, layer: Layer, page: Page, list: &[u8], i: usize) -> usize
-    requires { ⌜ Fair page ⌝ }
+    requires { ⌜ InBounds page ⌝ }
     requires { ⌜ i ≤ 512 ⌝ }
     ensures { λ r. ⌜ record { at = r; out = now (out .exit) } ≡ emits (one layer page (now (list .entry)) i) (record { at = at; out = now (out .entry) }) ⌝ }
 {
@@ -111,7 +111,7 @@ pub fn put_each(
     list: &[u8],
     count: usize,
 ) -> usize
-    requires { ⌜ Fair page ⌝ }
+    requires { ⌜ InBounds page ⌝ }
     requires { ⌜ count ≤ 512 ⌝ }
     ensures { λ r. ⌜ record { at = r; out = now (out .exit) } ≡ emits (each layer page (now (list .entry)) count 0) (record { at = at; out = now (out .entry) }) ⌝ }
 {

@@ -12,7 +12,7 @@ use crate::writing::put_words;
 ghost use mathlib.Core.Path.{_≡_};
 ghost use Prim.Native.Nat.{_+_, _*_, _≤_};
 ghost use Rattle.drawing.specs.Pieces.{emits};
-ghost use Rattle.drawing.specs.Pages.{Fair};
+ghost use Rattle.drawing.specs.Pages.{InBounds};
 ghost use Rattle.drawing.specs.Pictures.{style, head, points, title, gridded as griddedIn, shapes, widthLine, heightLine, dimensions, scaleLine, scale, picture, key};
 
 fn put_style(out: &mut [u8], at: usize, list: &[u8]) -> usize
@@ -56,7 +56,7 @@ fn put_points(out: &mut [u8], at: usize, list: &[u8], n: usize) -> usize
 
 // The plate's width and height, in points and in ticks.
 pub fn put_title(out: &mut [u8], at: usize, page: Page, list: &[u8]) -> usize
-    requires { ⌜ Fair page ⌝ }
+    requires { ⌜ InBounds page ⌝ }
     ensures { λ r. ⌜ record { at = r; out = now (out .exit) } ≡ emits (title page (now (list .entry))) (record { at = at; out = now (out .entry) }) ⌝ }
 {
     let first = put_words(
@@ -81,7 +81,7 @@ pub fn put_title(out: &mut [u8], at: usize, page: Page, list: &[u8]) -> usize
 
 // Only a grid has lines of columns and rows.
 fn gridded(page: Page) -> usize
-    requires { ⌜ Fair page ⌝ }
+    requires { ⌜ InBounds page ⌝ }
     ensures { λ r. ⌜ (r ≡ griddedIn page) × (r ≤ 512) ⌝ }
 {
     if page.columns == 0 {
@@ -92,7 +92,7 @@ fn gridded(page: Page) -> usize
 
 // The plate, its grid, and every frame and control.
 fn put_shapes(out: &mut [u8], at: usize, page: Page, list: &[u8]) -> usize
-    requires { ⌜ Fair page ⌝ }
+    requires { ⌜ InBounds page ⌝ }
     ensures { λ r. ⌜ record { at = r; out = now (out .exit) } ≡ emits (shapes page (now (list .entry))) (record { at = at; out = now (out .entry) }) ⌝ }
 {
     let count = gridded(page);
@@ -112,7 +112,7 @@ fn put_shapes(out: &mut [u8], at: usize, page: Page, list: &[u8]) -> usize
 }
 
 fn put_width_line(out: &mut [u8], at: usize, page: Page, list: &[u8]) -> usize
-    requires { ⌜ Fair page ⌝ }
+    requires { ⌜ InBounds page ⌝ }
     ensures { λ r. ⌜ record { at = r; out = now (out .exit) } ≡ emits (widthLine page (now (list .entry))) (record { at = at; out = now (out .entry) }) ⌝ }
 {
     let w = px(page, page.width);
@@ -131,7 +131,7 @@ fn put_width_line(out: &mut [u8], at: usize, page: Page, list: &[u8]) -> usize
 }
 
 fn put_height_line(out: &mut [u8], at: usize, page: Page, list: &[u8]) -> usize
-    requires { ⌜ Fair page ⌝ }
+    requires { ⌜ InBounds page ⌝ }
     ensures { λ r. ⌜ record { at = r; out = now (out .exit) } ≡ emits (heightLine page (now (list .entry))) (record { at = at; out = now (out .entry) }) ⌝ }
 {
     let w = px(page, page.width);
@@ -159,7 +159,7 @@ fn put_height_line(out: &mut [u8], at: usize, page: Page, list: &[u8]) -> usize
 
 // A plate in one piece has its sizes beside it, bands say where they begin.
 fn put_dimensions(out: &mut [u8], at: usize, page: Page, list: &[u8]) -> usize
-    requires { ⌜ Fair page ⌝ }
+    requires { ⌜ InBounds page ⌝ }
     ensures { λ r. ⌜ record { at = r; out = now (out .exit) } ≡ emits (dimensions page (now (list .entry))) (record { at = at; out = now (out .entry) }) ⌝ }
 {
     if page.bands == 1 {
@@ -170,7 +170,7 @@ fn put_dimensions(out: &mut [u8], at: usize, page: Page, list: &[u8]) -> usize
 }
 
 fn put_scale_line(out: &mut [u8], at: usize, page: Page, list: &[u8], bar: usize) -> usize
-    requires { ⌜ Fair page ⌝ }
+    requires { ⌜ InBounds page ⌝ }
     requires { ⌜ bar ≤ 2097152 ⌝ }
     ensures { λ r. ⌜ record { at = r; out = now (out .exit) } ≡ emits (scaleLine page (now (list .entry)) bar) (record { at = at; out = now (out .entry) }) ⌝ }
 {
@@ -191,14 +191,14 @@ fn put_scale_line(out: &mut [u8], at: usize, page: Page, list: &[u8], bar: usize
 }
 
 fn put_scale(out: &mut [u8], at: usize, page: Page, list: &[u8]) -> usize
-    requires { ⌜ Fair page ⌝ }
+    requires { ⌜ InBounds page ⌝ }
     ensures { λ r. ⌜ record { at = r; out = now (out .exit) } ≡ emits (scale page (now (list .entry))) (record { at = at; out = now (out .entry) }) ⌝ }
 {
     put_scale_line(out, at, page, list, bar_of(page.unit))
 }
 
 pub fn put_picture(out: &mut [u8], at: usize, page: Page, list: &[u8]) -> usize
-    requires { ⌜ Fair page ⌝ }
+    requires { ⌜ InBounds page ⌝ }
     ensures { λ r. ⌜ record { at = r; out = now (out .exit) } ≡ emits (picture page (now (list .entry))) (record { at = at; out = now (out .entry) }) ⌝ }
 {
     let plate = put_shapes(out, at, page, list);
@@ -210,7 +210,7 @@ pub fn put_picture(out: &mut [u8], at: usize, page: Page, list: &[u8]) -> usize
 
 // The list, below the picture.
 pub fn put_key(out: &mut [u8], at: usize, page: Page, list: &[u8]) -> usize
-    requires { ⌜ Fair page ⌝ }
+    requires { ⌜ InBounds page ⌝ }
     ensures { λ r. ⌜ record { at = r; out = now (out .exit) } ≡ emits (key page (now (list .entry))) (record { at = at; out = now (out .entry) }) ⌝ }
 {
     let numbers = [bottom(page) + 50];

@@ -8,12 +8,12 @@ pub mod Order
 pub mod OrderLaws
 pub mod Zeros
 pub mod MinMax
-pub mod NearUp
+mod NearUp
 pub mod Rounding
-pub mod NearestWhole
-pub mod Shifted
+mod NearestWhole
+mod Shifted
 pub mod Unique
-pub mod RoundOrder
+mod RoundOrder
 pub mod Edges
 pub mod Centres
 pub mod Sums

@@ -13,10 +13,6 @@ use Rattle.sheet.specs.Ticks.{inTicks}
 use Rattle.sheet.specs.Slices.{edges, LaidOut, laid}
 use Rattle.listing.specs.Lists.{listOf}
 
--- a memory in the caller's arrays, with its counts
-abbrev pub memoryOf : List Float → ℕ → List Float → ℕ → Memory
-memoryOf widths cols heights rows = record { «col_widths» = widths; cols = cols; «row_heights» = heights; rows = rows }
-
 -- the refusal's number and record (0 and 0: accepted), the slice of the rectangles, the plate's edges in ticks, the memory
 pub record Exported : Type 0 where
   pub number : ℕ

@@ -15,7 +15,7 @@ ghost use Rattle.emath.specs.Steps.{tick};
 ghost use Rattle.region.specs.Steps.{WholeRect};
 ghost use Rattle.sheet.specs.Ticks.{inTicks};
 ghost use Rattle.sheet.specs.Slices.{edges, laidNumber, laidRecord};
-ghost use Rattle.embed.specs.Calls.{memoryOf};
+ghost use Rattle.grid.specs.Memories.{memoryOf};
 
 pub(crate) fn memory_of(
     widths: &[f32; 32],

@@ -14,7 +14,8 @@ ghost use mathlib.Core.Path.{_≡_};
 ghost use Prim.Native.Nat.{_≤_};
 ghost use Rattle.drawing.specs.Pictures.{drawnIn};
 ghost use Rattle.listing.specs.Lists.{listOf, settled};
-ghost use Rattle.embed.specs.Calls.{memoryOf, exported, onePass, listInto};
+ghost use Rattle.grid.specs.Memories.{memoryOf};
+ghost use Rattle.embed.specs.Calls.{exported, onePass, listInto};
 
 // One pass: with the memory in the arrays where it is known, sizing or not. It answers the number, 0 where the sheet is accepted.
 #[no_mangle]

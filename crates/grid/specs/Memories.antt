@@ -16,6 +16,10 @@ widths m = take (m .cols) (m .«col_widths»)
 abbrev pub heights : Memory → List Float
 heights m = take (m .rows) (m .«row_heights»)
 
+-- RULES 3.1: a memory of its arrays and its counts
+abbrev pub memoryOf : List Float → ℕ → List Float → ℕ → Memory
+memoryOf ws cols hs rows = record { «col_widths» = ws; cols = cols; «row_heights» = hs; rows = rows }
+
 -- RULES 3.2: nothing counted, and zeros in both arrays
 abbrev pub emptyMemory : Memory
 emptyMemory = record { «col_widths» = zeros 32; cols = 0; «row_heights» = zeros 128; rows = 0 }

@@ -8,7 +8,7 @@ use Rattle.emath.specs.Rectangles.{zeroF}
 use Rattle.emath.specs.Numbers as number
 use Rattle.emath.specs.Refusals.{when, least, pairFault, sizeFault, edgesFault}
 use Rattle.region.specs.Regions.{infinity}
-use Rattle.region.specs.Refusals.{excused, cursorFault}
+use Rattle.region.specs.Refusals.{zeroIfOpen, cursorFault}
 use Rattle.grid.specs.Entries.{entriesFault}
 use Rattle.grid.specs.Memories.{widths, heights}
 use Rattle.emath.specs.declared.Vec2.{Vec2}
@@ -32,7 +32,7 @@ memoryFault m = least (entriesFault (widths m) ∷ entriesFault (heights m) ∷ 
 
 -- RULES 8.5: those of a size, but +∞ is allowed (RULES 5.3)
 unfoldable pub maxCellFault : Vec2 → ℕ
-maxCellFault v = sizeFault (record { x = excused infinity (v .x); y = excused infinity (v .y) })
+maxCellFault v = sizeFault (record { x = zeroIfOpen infinity (v .x); y = zeroIfOpen infinity (v .y) })
 
 -- RULES 8.5: those of its parts; 8 where it is past column 32 or row 128
 unfoldable pub gridFault : GridLayout → ℕ

@@ -23,7 +23,7 @@ use emath::numbers::GRID_FULL;
 use emath::numbers::NOT_IN_GRID;
 use region::Direction;
 use region::faults::cursor_fault;
-use region::faults::excused_edge;
+use region::faults::zero_if_open;
 ghost use mathlib.Core.Path.{_≡_};
 ghost use Rattle.grid.specs.Entries.{entriesFault};
 ghost use Rattle.grid.specs.Memories.{widths, heights};
@@ -65,8 +65,8 @@ pub fn max_cell_fault(v: Vec2) -> u8
 {
     let far = infinity();
     size_fault(Vec2 {
-        x: excused_edge(far, v.x),
-        y: excused_edge(far, v.y),
+        x: zero_if_open(far, v.x),
+        y: zero_if_open(far, v.y),
     })
 }
 

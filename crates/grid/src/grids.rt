@@ -4,8 +4,8 @@ use crate::Memory;
 use crate::Moved;
 use crate::Saved;
 use crate::lent;
-use crate::lent::bare;
-use crate::lent::spot;
+use crate::lent::settings;
+use crate::lent::state;
 use crate::lent::whole;
 use crate::memories::col_width;
 use crate::memories::empty_memory;
@@ -175,8 +175,8 @@ pub fn next_cell(grid: GridLayout, cursor: Rect, child_size: Vec2) -> Rect
     let widths = widths_of(grid.prev_state);
     let heights = heights_of(grid.prev_state);
     lent::next_cell(
-        bare(grid),
-        spot(grid),
+        settings(grid),
+        state(grid),
         &widths,
         &heights,
         cursor,
@@ -198,8 +198,8 @@ pub fn advance(grid: GridLayout, cursor: Rect, widget: Rect) -> Moved
     let prev_widths = widths_of(grid.prev_state);
     let mut widths = widths_of(grid.curr_state);
     let mut heights = heights_of(grid.curr_state);
-    let b = bare(grid);
-    let s = spot(grid);
+    let b = settings(grid);
+    let s = state(grid);
     let c = lent::advanced_cursor(b, s, &prev_widths, cursor);
     let g = lent::advance(b, s, &mut widths, &mut heights, widget);
     Moved {
@@ -212,8 +212,8 @@ pub fn end_row(grid: GridLayout, cursor: Rect) -> Moved
     ensures { λ m. ⌜ m ≡ endRow grid cursor ⌝ }
 {
     let heights = heights_of(grid.curr_state);
-    let b = bare(grid);
-    let s = spot(grid);
+    let b = settings(grid);
+    let s = state(grid);
     let c = lent::ended_cursor(b, s, &heights, cursor);
     let g = lent::end_row(s);
     Moved {

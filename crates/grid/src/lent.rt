@@ -1,7 +1,7 @@
-// GridLayout's calls on lent arrays: the cores of those in `grids`. Each holds for the grid that the bare one and the arrays make.
-use crate::BareGrid;
+// GridLayout's calls on lent arrays: the cores of those in `grids`. Each holds for the grid that the settings one and the arrays make.
 use crate::GridLayout;
-use crate::GridSpot;
+use crate::GridSettings;
+use crate::GridState;
 use crate::MAX_COLS;
 use crate::MAX_ROWS;
 use crate::Memory;
@@ -19,19 +19,19 @@ ghost use lib.ListN.{length};
 ghost use lib.Ieee.{Float};
 ghost use Rattle.emath.specs.Steps.{tick};
 ghost use Rattle.emath.specs.declared.Rect.{Rect as Place};
-ghost use Rattle.grid.specs.declared.BareGrid.{BareGrid as Bare};
+ghost use Rattle.grid.specs.declared.GridSettings.{GridSettings as Settings};
 ghost use Rattle.grid.specs.Grids.{nextWidth, nextCell, advance, endRow};
-ghost use Rattle.grid.specs.Implementation.Lent.{gridOf, bareOf, spotOf, notedSize};
+ghost use Rattle.grid.specs.Implementation.Lent.{gridOf, settingsOf, stateOf, notedSize};
 
-pub fn bare(grid: GridLayout) -> BareGrid
-    ensures { λ g. ⌜ g ≡ bareOf grid ⌝ }
+pub fn settings(grid: GridLayout) -> GridSettings
+    ensures { λ g. ⌜ g ≡ settingsOf grid ⌝ }
 {
     let prev = grid.prev_state;
     let available = grid.initial_available;
     let spacing = grid.spacing;
     let smallest = grid.min_cell_size;
     let largest = grid.max_cell_size;
-    BareGrid {
+    GridSettings {
         is_first_frame: grid.is_first_frame,
         prev_cols: prev.cols,
         prev_rows: prev.rows,
@@ -44,11 +44,11 @@ pub fn bare(grid: GridLayout) -> BareGrid
     }
 }
 
-pub fn spot(grid: GridLayout) -> GridSpot
-    ensures { λ s. ⌜ s ≡ spotOf grid ⌝ }
+pub fn state(grid: GridLayout) -> GridState
+    ensures { λ s. ⌜ s ≡ stateOf grid ⌝ }
 {
     let curr = grid.curr_state;
-    GridSpot {
+    GridState {
         cols: curr.cols,
         rows: curr.rows,
         col: grid.col,
@@ -58,22 +58,22 @@ pub fn spot(grid: GridLayout) -> GridSpot
 
 // The arrays of `prev` beside those of this pass.
 pub fn whole(
-    grid: BareGrid,
-    spot: GridSpot,
+    grid: GridSettings,
+    state: GridState,
     prev: Memory,
     widths: [f32; 32],
     heights: [f32; 128],
 ) -> GridLayout
-    ensures { λ g. ⌜ g ≡ gridOf grid spot (prev .«col_widths») (prev .«row_heights») widths heights ⌝ }
+    ensures { λ g. ⌜ g ≡ gridOf grid state (prev .«col_widths») (prev .«row_heights») widths heights ⌝ }
 {
     let mut before = prev;
     before.cols = grid.prev_cols;
     before.rows = grid.prev_rows;
     let curr = Memory {
         col_widths: widths,
-        cols: spot.cols,
+        cols: state.cols,
         row_heights: heights,
-        rows: spot.rows,
+        rows: state.rows,
     };
     let available = grid.initial_available;
     let spacing = grid.spacing;
@@ -89,33 +89,38 @@ pub fn whole(
         spacing: spacing,
         min_cell_size: smallest,
         max_cell_size: largest,
-        col: spot.col,
-        row: spot.row,
+        col: state.col,
+        row: state.row,
     }
 }
 
 // A sizing pass goes by no remembered width.
-fn next_width(grid: BareGrid, spot: GridSpot, prev_widths: &[f32]) -> f32
-    ensures { λ r. ⌜ r ≡ nextWidth (gridOf grid spot (now («prev_widths» .entry)) [] [] []) ⌝ }
+fn next_width(grid: GridSettings, state: GridState, prev_widths: &[f32]) -> f32
+    ensures { λ r. ⌜ r ≡ nextWidth (gridOf grid state (now («prev_widths» .entry)) [] [] []) ⌝ }
 {
     if grid.sizing_pass {
         return 0.0;
     }
-    entry(prev_widths, grid.prev_cols, spot.col, 0.0)
+    entry(prev_widths, grid.prev_cols, state.col, 0.0)
 }
 
 pub fn next_cell(
-    grid: BareGrid,
-    spot: GridSpot,
+    grid: GridSettings,
+    state: GridState,
     prev_widths: &[f32],
     prev_heights: &[f32],
     cursor: Rect,
     child_size: Vec2,
 ) -> Rect
-    ensures { λ r. ⌜ ((ws hs : List Float) → r ≡ nextCell tick (gridOf grid spot (now («prev_widths» .entry)) (now («prev_heights» .entry)) ws hs) cursor «child_size») ⌝ }
+    ensures { λ r. ⌜ ((ws hs : List Float) → r ≡ nextCell tick (gridOf grid state (now («prev_widths» .entry)) (now («prev_heights» .entry)) ws hs) cursor «child_size») ⌝ }
 {
-    let width = next_width(grid, spot, prev_widths);
-    let height = entry(prev_heights, grid.prev_rows, spot.row, grid.min_cell_size.y);
+    let width = next_width(grid, state, prev_widths);
+    let height = entry(
+        prev_heights,
+        grid.prev_rows,
+        state.row,
+        grid.min_cell_size.y,
+    );
     let size = Vec2 {
         x: max(child_size.x, width),
         y: max(child_size.y, height),
@@ -129,38 +134,38 @@ pub fn next_cell(
 
 // The entries that an advance leaves at its column and its row.
 pub fn noted_size(
-    grid: BareGrid,
-    spot: GridSpot,
+    grid: GridSettings,
+    state: GridState,
     widths: &[f32],
     heights: &[f32],
     widget: Rect,
 ) -> Vec2
-    ensures { λ r. ⌜ ((pw ph : List Float) → r ≡ notedSize (gridOf grid spot pw ph (now (widths .entry)) (now (heights .entry))) widget) ⌝ }
+    ensures { λ r. ⌜ ((pw ph : List Float) → r ≡ notedSize (gridOf grid state pw ph (now (widths .entry)) (now (heights .entry))) widget) ⌝ }
 {
     let width = max(widget.width(), grid.min_cell_size.x);
     let height = max(widget.height(), grid.min_cell_size.y);
     Vec2 {
-        x: max(entry(widths, spot.cols, spot.col, 0.0), width),
-        y: max(entry(heights, spot.rows, spot.row, 0.0), height),
+        x: max(entry(widths, state.cols, state.col, 0.0), width),
+        y: max(entry(heights, state.rows, state.row, 0.0), height),
     }
 }
 
 // The widget's size goes to the arrays, each length raised to the minimum cell.
 fn note(
-    grid: BareGrid,
-    spot: GridSpot,
+    grid: GridSettings,
+    state: GridState,
     widths: &mut [f32],
     heights: &mut [f32],
     widget: Rect,
-) -> GridSpot
-    requires { ⌜ (spot .col < 32) × (spot .row < 128) ⌝ }
+) -> GridState
+    requires { ⌜ (state .col < 32) × (state .row < 128) ⌝ }
     requires { ⌜ (length (now widths) ≡ 32) × (length (now heights) ≡ 128) ⌝ }
-    ensures { λ r. ⌜ ((pw ph : List Float) (c : Place) → gridOf grid r pw ph (now (widths .exit)) (now (heights .exit)) ≡ advance (gridOf grid spot pw ph (now (widths .entry)) (now (heights .entry))) c widget .grid) ⌝ }
+    ensures { λ r. ⌜ ((pw ph : List Float) (c : Place) → gridOf grid r pw ph (now (widths .exit)) (now (heights .exit)) ≡ advance (gridOf grid state pw ph (now (widths .entry)) (now (heights .entry))) c widget .grid) ⌝ }
 {
-    let col = spot.col;
-    let row = spot.row;
-    let cols = spot.cols;
-    let rows = spot.rows;
+    let col = state.col;
+    let row = state.row;
+    let cols = state.cols;
+    let rows = state.rows;
     raise(widths, cols, col, max(widget.width(), grid.min_cell_size.x));
     raise(
         heights,
@@ -168,7 +173,7 @@ fn note(
         row,
         max(widget.height(), grid.min_cell_size.y),
     );
-    GridSpot {
+    GridState {
         cols: raised_count(cols, col + 1),
         rows: raised_count(rows, row + 1),
         col: col + 1,
@@ -178,29 +183,34 @@ fn note(
 
 // Where the grid has no room nothing changes.
 pub fn advance(
-    grid: BareGrid,
-    spot: GridSpot,
+    grid: GridSettings,
+    state: GridState,
     widths: &mut [f32],
     heights: &mut [f32],
     widget: Rect,
-) -> GridSpot
+) -> GridState
     requires { ⌜ (length (now widths) ≡ 32) × (length (now heights) ≡ 128) ⌝ }
-    ensures { λ r. ⌜ ((pw ph : List Float) (c : Place) → gridOf grid r pw ph (now (widths .exit)) (now (heights .exit)) ≡ advance (gridOf grid spot pw ph (now (widths .entry)) (now (heights .entry))) c widget .grid) ⌝ }
+    ensures { λ r. ⌜ ((pw ph : List Float) (c : Place) → gridOf grid r pw ph (now (widths .exit)) (now (heights .exit)) ≡ advance (gridOf grid state pw ph (now (widths .entry)) (now (heights .entry))) c widget .grid) ⌝ }
 {
-    if spot.col < MAX_COLS {
-        if spot.row < MAX_ROWS {
-            return note(grid, spot, widths, heights, widget);
+    if state.col < MAX_COLS {
+        if state.row < MAX_ROWS {
+            return note(grid, state, widths, heights, widget);
         }
     }
-    spot
+    state
 }
 
-pub fn advanced_cursor(grid: BareGrid, spot: GridSpot, prev_widths: &[f32], cursor: Rect) -> Rect
-    ensures { λ r. ⌜ ((ph ws hs : List Float) (w : Place) → r ≡ advance (gridOf grid spot (now («prev_widths» .entry)) ph ws hs) cursor w .cursor) ⌝ }
+pub fn advanced_cursor(
+    grid: GridSettings,
+    state: GridState,
+    prev_widths: &[f32],
+    cursor: Rect,
+) -> Rect
+    ensures { λ r. ⌜ ((ph ws hs : List Float) (w : Place) → r ≡ advance (gridOf grid state (now («prev_widths» .entry)) ph ws hs) cursor w .cursor) ⌝ }
 {
-    if spot.col < MAX_COLS {
-        if spot.row < MAX_ROWS {
-            let width = entry(prev_widths, grid.prev_cols, spot.col, grid.min_cell_size.x);
+    if state.col < MAX_COLS {
+        if state.row < MAX_ROWS {
+            let width = entry(prev_widths, grid.prev_cols, state.col, grid.min_cell_size.x);
             let mut c = cursor;
             c.left = cursor.left + (width + grid.spacing.x);
             return c;
@@ -209,24 +219,24 @@ pub fn advanced_cursor(grid: BareGrid, spot: GridSpot, prev_widths: &[f32], curs
     cursor
 }
 
-pub fn end_row(spot: GridSpot) -> GridSpot
-    ensures { λ r. ⌜ ((g : Bare) (pw ph ws hs : List Float) (c : Place) → gridOf g r pw ph ws hs ≡ endRow (gridOf g spot pw ph ws hs) c .grid) ⌝ }
+pub fn end_row(state: GridState) -> GridState
+    ensures { λ r. ⌜ ((g : Settings) (pw ph ws hs : List Float) (c : Place) → gridOf g r pw ph ws hs ≡ endRow (gridOf g state pw ph ws hs) c .grid) ⌝ }
 {
-    if spot.row < MAX_ROWS {
-        let mut s = spot;
+    if state.row < MAX_ROWS {
+        let mut s = state;
         s.col = 0;
-        s.row = spot.row + 1;
+        s.row = state.row + 1;
         return s;
     }
-    spot
+    state
 }
 
 // By the height that this pass has met, or the minimum.
-pub fn ended_cursor(grid: BareGrid, spot: GridSpot, heights: &[f32], cursor: Rect) -> Rect
-    ensures { λ r. ⌜ ((pw ph ws : List Float) → r ≡ endRow (gridOf grid spot pw ph ws (now (heights .entry))) cursor .cursor) ⌝ }
+pub fn ended_cursor(grid: GridSettings, state: GridState, heights: &[f32], cursor: Rect) -> Rect
+    ensures { λ r. ⌜ ((pw ph ws : List Float) → r ≡ endRow (gridOf grid state pw ph ws (now (heights .entry))) cursor .cursor) ⌝ }
 {
-    if spot.row < MAX_ROWS {
-        let height = entry(heights, spot.rows, spot.row, grid.min_cell_size.y);
+    if state.row < MAX_ROWS {
+        let height = entry(heights, state.rows, state.row, grid.min_cell_size.y);
         let mut c = cursor;
         c.left = grid.initial_available.left;
         c.top = cursor.top + grid.spacing.y + height;

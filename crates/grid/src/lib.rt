@@ -42,7 +42,7 @@ pub struct GridLayout {
 }
 
 // What a pass leaves as it is of a grid, without the arrays, which are lent beside it.
-pub struct BareGrid {
+pub struct GridSettings {
     pub is_first_frame: bool,
     pub prev_cols: usize,
     pub prev_rows: usize,
@@ -55,7 +55,7 @@ pub struct BareGrid {
 }
 
 // What a pass carries from cell to cell: how many columns and rows it remembers so far, and where it is.
-pub struct GridSpot {
+pub struct GridState {
     pub cols: usize,
     pub rows: usize,
     pub col: usize,

@@ -48,7 +48,7 @@ nothing = refl
 
 module _ (k : ℕ) (l : k ≤ 6) where
   -- low and high are min_rect's on one axis
-  pub record Spot (low high : Float) : Type 0 where
+  pub record SeedAxis (low high : Float) : Type 0 where
     pub same : low ≡ high
     pub edge : Edge k low
 
@@ -59,8 +59,8 @@ module _ (k : ℕ) (l : k ≤ 6) where
       let i : z +ℤ pos 0 ≡ z = omega (arith, whole, sum z (pos 0)) in
       rw (e .is, ← val-zero k) (val-add k (omega arith) z (pos 0) (omega arith) (omega arith) ∙ ap (val k) i)
 
-  spot : (x w : Float) → w ≡ roundUi k x → T (within (sub binary32 (centreOn w w) (mul binary32 halfF zeroF))) → Spot (sub binary32 (centreOn w w) (mul binary32 halfF zeroF)) (add binary32 (centreOn w w) (mul binary32 halfF zeroF))
-  spot x w e t =
+  seed-axis : (x w : Float) → w ≡ roundUi k x → T (within (sub binary32 (centreOn w w) (mul binary32 halfF zeroF))) → SeedAxis (sub binary32 (centreOn w w) (mul binary32 halfF zeroF)) (add binary32 (centreOn w w) (mul binary32 halfF zeroF))
+  seed-axis x w e t =
       let c = centreOn w w in
       let z : sub binary32 c (mul binary32 halfF zeroF) ≡ c = rw nothing (less-zero c (div-fits binary32 (add binary32 w w) twoF)) in
       let i = centre-edge k l x (rw (z, e) at t) in
@@ -71,10 +71,10 @@ module _ (k : ℕ) (l : k ≤ 6) where
   -- on one axis: from the frame's edges to min_rect's
   axis : (a : Align) (low high : Float) → T (fits binary32 low) → T (fits binary32 high)
       → T (within (sub binary32 (centreOn (roundUi k (alignOn a low high zeroF .min)) (roundUi k (alignOn a low high zeroF .max))) (mul binary32 halfF zeroF)))
-      → Spot (sub binary32 (centreOn (roundUi k (alignOn a low high zeroF .min)) (roundUi k (alignOn a low high zeroF .max))) (mul binary32 halfF zeroF)) (add binary32 (centreOn (roundUi k (alignOn a low high zeroF .min)) (roundUi k (alignOn a low high zeroF .max))) (mul binary32 halfF zeroF))
+      → SeedAxis (sub binary32 (centreOn (roundUi k (alignOn a low high zeroF .min)) (roundUi k (alignOn a low high zeroF .max))) (mul binary32 halfF zeroF)) (add binary32 (centreOn (roundUi k (alignOn a low high zeroF .min)) (roundUi k (alignOn a low high zeroF .max))) (mul binary32 halfF zeroF))
   axis a low high f g t =
       let e = aligned-same k (omega arith) a low high f g in
-      rw e (spot (alignOn a low high zeroF .min) (roundUi k (alignOn a low high zeroF .min)) refl (rw e at t))
+      rw e (seed-axis (alignOn a low high zeroF .min) (roundUi k (alignOn a low high zeroF .min)) refl (rw e at t))
 
   -- a rounded edge is an f32
   round-fits : (x : Float) → T (fits binary32 (roundUi k x))

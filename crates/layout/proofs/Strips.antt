@@ -19,7 +19,7 @@ use Rattle.emath.proofs.Rounding.{val-whole}
 use Rattle.region.specs.Directions.{isHorizontal}
 use Rattle.layout.specs.Layouts.{isCenter, horizontalAlign, verticalAlign, align2, horizontalJustify, verticalJustify}
 use Rattle.region.specs.Regions.{infinity}
-use Rattle.layout.specs.Rules.{alignSizeWithinRect, uncut, notNegative, notNegativeRect, availableFromCursorMaxRect, availableRectBeforeWrap, fillsWidth, fillsHeight, frameWidth, frameHeight, frameAlign2, movedDown, frameRect, nextFrameIgnoreWrap, wraps, nextFrame, raised, justifyAndAlign, grownAcross, rowFor, pastWidget, advanceAfterRects}
+use Rattle.layout.specs.Rules.{alignSizeWithinRect, fromCursor, notNegative, notNegativeRect, availableFromCursorMaxRect, availableRectBeforeWrap, fillsWidth, fillsHeight, frameWidth, frameHeight, frameAlign2, movedDown, frameRect, nextFrameIgnoreWrap, wraps, nextFrame, raised, justifyAndAlign, grownAcross, rowFor, pastWidget, advanceAfterRects}
 use Rattle.layout.specs.Strips.{strip}
 use Rattle.emath.specs.declared.Rect.{Rect}
 use Rattle.emath.specs.declared.Vec2.{Vec2}
@@ -64,7 +64,7 @@ module _ (k : ℕ) (l : k ≤ 7) where
     depth = minZ (maxZ mb t) b
 
     available-is : availableRectBeforeWrap LeftToRight stripRegion ≡ rectIn k x t reach depth
-    unfolding availableRectBeforeWrap availableFromCursorMaxRect uncut intersect notNegativeRect notNegative
+    unfolding availableRectBeforeWrap availableFromCursorMaxRect fromCursor intersect notNegativeRect notNegative
     available-is =
         let k9 : k ≤ 149 = omega arith in
         let Xs : Small x = omega arith in

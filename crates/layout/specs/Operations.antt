@@ -5,7 +5,7 @@ use mathlib.Core.List.{[], _∷_}
 use lib.Ieee.{Float}
 use Rattle.emath.specs.Refusals.{least, orElse, lengthFault, pairFault, sizeFault, rectFault, outside}
 use Rattle.layout.specs.Rules.{alignSizeWithinRect, initialCursor, availableFromCursorMaxRect, availableRectBeforeWrap, availableSize, nextFrameIgnoreWrap, nextFrame, justifyAndAlign, nextWidgetSpaceIgnoreWrapJustify, nextWidgetPosition, regionFromMaxRect, advanceCursor, advanceAfterRects, endRow, setRowHeight}
-use Rattle.region.specs.Operations.{placedNumber, framedNumber, moved}
+use Rattle.region.specs.Operations.{placedNumber, framedNumber, changedRegion}
 use Rattle.region.specs.Refusals.{cursorFault, regionFault, zeroRegion, rectAnswer, posAnswer, sizeAnswer, cursorAnswer}
 use Rattle.emath.specs.declared.Rect.{Rect}
 use Rattle.emath.specs.declared.Vec2.{Vec2}
@@ -34,7 +34,7 @@ checkedInitialCursor l m = rectAnswer (initialCursorNumber l m) (initialCursor (
 
 -- there is no given region: a refused one is all zero
 unfoldable pub checkedRegionFromMaxRect : ℕ → Layout → Rect → RegionAnswer
-checkedRegionFromMaxRect k l m = moved (l .«main_dir») (rectFault m) zeroRegion (regionFromMaxRect k l m)
+checkedRegionFromMaxRect k l m = changedRegion (l .«main_dir») (rectFault m) zeroRegion (regionFromMaxRect k l m)
 
 -- ---- RULES 8.15: what is available
 unfoldable pub availableRectBeforeWrapNumber : Layout → Region → ℕ
@@ -90,7 +90,7 @@ checkedNextWidgetPosition k l g = posAnswer (nextWidgetPositionNumber k l g) (ne
 -- ---- RULES 8.15: a region or a cursor that is new, or as it was given where the call is refused
 unfoldable pub checkedAdvanceCursor : Layout → Region → Float → RegionAnswer
 checkedAdvanceCursor l g a =
-    moved (l .«main_dir») (least (regionFault (l .«main_dir») g ∷ lengthFault a ∷ [])) g (advanceCursor (l .«main_dir») g a)
+    changedRegion (l .«main_dir») (least (regionFault (l .«main_dir») g ∷ lengthFault a ∷ [])) g (advanceCursor (l .«main_dir») g a)
 
 unfoldable pub checkedAdvanceAfterRects : Layout → Rect → Rect → Rect → Vec2 → CursorAnswer
 checkedAdvanceAfterRects l c f w sp =
@@ -101,7 +101,7 @@ checkedAdvanceAfterRects l c f w sp =
     c (advanceAfterRects l c f w sp)
 
 unfoldable pub checkedEndRow : Layout → Region → Vec2 → RegionAnswer
-checkedEndRow l g sp = moved (l .«main_dir») (least (regionFault (l .«main_dir») g ∷ pairFault (sp .x) (sp .y) ∷ [])) g (endRow l g sp)
+checkedEndRow l g sp = changedRegion (l .«main_dir») (least (regionFault (l .«main_dir») g ∷ pairFault (sp .x) (sp .y) ∷ [])) g (endRow l g sp)
 
 unfoldable pub checkedSetRowHeight : Layout → Region → Float → RegionAnswer
-checkedSetRowHeight l g h = moved (l .«main_dir») (least (regionFault (l .«main_dir») g ∷ lengthFault h ∷ [])) g (setRowHeight l g h)
+checkedSetRowHeight l g h = changedRegion (l .«main_dir») (least (regionFault (l .«main_dir») g ∷ lengthFault h ∷ [])) g (setRowHeight l g h)

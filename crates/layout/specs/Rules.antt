@@ -32,11 +32,11 @@ initialCursor BottomUp m = setTop m (neg infinity)
 
 -- ---- RULES 2.11, available_from_cursor_max_rect
 -- max_rect from the cursor on
-unfoldable pub uncut : Direction → Rect → Rect → Rect
-uncut LeftToRight c m = record { left = c .left; top = m .top; right = maxF (maxF (m .right) (c .left)) (c .left); bottom = maxF (m .bottom) (m .top) }
-uncut RightToLeft c m = record { left = minF (minF (m .left) (c .right)) (c .right); top = m .top; right = c .right; bottom = maxF (m .bottom) (m .top) }
-uncut TopDown c m = record { left = m .left; top = c .top; right = maxF (m .right) (m .left); bottom = maxF (maxF (m .bottom) (c .top)) (c .top) }
-uncut BottomUp c m = record { left = m .left; top = minF (minF (m .top) (c .bottom)) (c .bottom); right = maxF (m .right) (m .left); bottom = c .bottom }
+unfoldable pub fromCursor : Direction → Rect → Rect → Rect
+fromCursor LeftToRight c m = record { left = c .left; top = m .top; right = maxF (maxF (m .right) (c .left)) (c .left); bottom = maxF (m .bottom) (m .top) }
+fromCursor RightToLeft c m = record { left = minF (minF (m .left) (c .right)) (c .right); top = m .top; right = c .right; bottom = maxF (m .bottom) (m .top) }
+fromCursor TopDown c m = record { left = m .left; top = c .top; right = maxF (m .right) (m .left); bottom = maxF (maxF (m .bottom) (c .top)) (c .top) }
+fromCursor BottomUp c m = record { left = m .left; top = minF (minF (m .top) (c .bottom)) (c .bottom); right = maxF (m .right) (m .left); bottom = c .bottom }
 
 -- both ends are the midpoint where the range is inside out
 unfoldable pub notNegative : Float → Float → Rangef
@@ -52,7 +52,7 @@ notNegativeRect r = record {
 
 -- RULES 2.11: no more than the cursor has
 unfoldable pub availableFromCursorMaxRect : Direction → Rect → Rect → Rect
-availableFromCursorMaxRect d c m = notNegativeRect (intersect (uncut d c m) c)
+availableFromCursorMaxRect d c m = notNegativeRect (intersect (fromCursor d c m) c)
 
 -- ---- RULES 2.12, available_rect_before_wrap
 unfoldable pub availableRectBeforeWrap : Direction → Region → Rect

@@ -10,7 +10,7 @@ use emath::num::min;
 use region::Direction;
 use region::Region;
 ghost use mathlib.Core.Path.{_≡_};
-ghost use Rattle.layout.specs.Rules.{initialCursor, uncut, notNegative, notNegativeRect, availableFromCursorMaxRect, availableRectBeforeWrap, availableSize};
+ghost use Rattle.layout.specs.Rules.{initialCursor, fromCursor, notNegative, notNegativeRect, availableFromCursorMaxRect, availableRectBeforeWrap, availableSize};
 
 pub fn initial_cursor(main_dir: Direction, max_rect: Rect) -> Rect
     ensures { λ r. ⌜ r ≡ initialCursor «main_dir» «max_rect» ⌝ }
@@ -34,8 +34,8 @@ pub fn initial_cursor(main_dir: Direction, max_rect: Rect) -> Rect
 }
 
 // max_rect from the cursor on, not inside out.
-fn uncut_rect(main_dir: Direction, cursor: Rect, max_rect: Rect) -> Rect
-    ensures { λ r. ⌜ r ≡ uncut «main_dir» cursor «max_rect» ⌝ }
+fn from_cursor(main_dir: Direction, cursor: Rect, max_rect: Rect) -> Rect
+    ensures { λ r. ⌜ r ≡ fromCursor «main_dir» cursor «max_rect» ⌝ }
 {
     match main_dir {
         Direction::LeftToRight => Rect {
@@ -95,7 +95,7 @@ fn not_negative_rect(r: Rect) -> Rect
 pub fn available_from_cursor_max_rect(main_dir: Direction, cursor: Rect, max_rect: Rect) -> Rect
     ensures { λ r. ⌜ r ≡ availableFromCursorMaxRect «main_dir» cursor «max_rect» ⌝ }
 {
-    not_negative_rect(uncut_rect(main_dir, cursor, max_rect).intersect(cursor))
+    not_negative_rect(from_cursor(main_dir, cursor, max_rect).intersect(cursor))
 }
 
 pub fn available_rect_before_wrap(main_dir: Direction, region: Region) -> Rect

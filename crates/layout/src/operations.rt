@@ -19,10 +19,10 @@ use region::RectAnswer;
 use region::Region;
 use region::RegionAnswer;
 use region::SizeAnswer;
+use region::faults::changed_region;
 use region::faults::cursor_answer;
 use region::faults::cursor_fault;
 use region::faults::framed_rect;
-use region::faults::moved_region;
 use region::faults::placed_rect;
 use region::faults::pos_answer;
 use region::faults::rect_answer;
@@ -59,7 +59,7 @@ impl Layout {
     {
         let d = self.main_dir;
         let new = widgets::region_from_max_rect(self, max_rect);
-        moved_region(d, rect_fault(max_rect), zero_region(), new)
+        changed_region(d, rect_fault(max_rect), zero_region(), new)
     }
 
     pub fn available_rect_before_wrap(self, region: Region) -> RectAnswer
@@ -154,7 +154,7 @@ impl Layout {
         let d = self.main_dir;
         let new = cursors::advance_cursor(d, region, amount);
         let before = lesser_number(region_fault(d, region), length_fault(amount));
-        moved_region(d, before, region, new)
+        changed_region(d, before, region, new)
     }
 
     pub fn advance_after_rects(
@@ -184,7 +184,7 @@ impl Layout {
         let d = self.main_dir;
         let new = cursors::end_row(self, region, spacing);
         let before = lesser_number(region_fault(d, region), pair_fault(spacing.x, spacing.y));
-        moved_region(d, before, region, new)
+        changed_region(d, before, region, new)
     }
 
     pub fn set_row_height(self, region: Region, height: f32) -> RegionAnswer
@@ -193,6 +193,6 @@ impl Layout {
         let d = self.main_dir;
         let new = cursors::set_row_height(self, region, height);
         let before = lesser_number(region_fault(d, region), length_fault(height));
-        moved_region(d, before, region, new)
+        changed_region(d, before, region, new)
     }
 }

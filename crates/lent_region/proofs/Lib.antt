@@ -1,3 +1,3 @@
 -- The walk that both lent calls share, then a lent call as whoever lends a local sees it.
-pub mod Lending
-pub mod Borrowed
+mod Lending
+mod Borrowed

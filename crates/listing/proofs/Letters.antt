@@ -1,18 +1,17 @@
 -- A record that is not malformed is a W exactly if its letter is W. Assumes nothing.
 use Prim.Native.Nat.{ℕ}
 use mathlib.Core.Path.{_≡_, refl, sym}
-use mathlib.Core.Bool.{Bool, true, false, cond, _&&_}
+use mathlib.Core.Bool.{Bool, true, false, cond, _&&_, true≢false}
 use mathlib.Core.List.{List}
 use lib.Dec.{eqb}
 use Rattle.records.specs.Parts.{letter, ends, lengthIn, isLength, lengthValue}
-use Rattle.records.specs.Records.{pick, stepRecord, widgetRecord, singleRecord, recordOf}
+use Rattle.records.specs.Records.{stepRecord, widgetRecord, singleRecord, recordOf}
 use Rattle.records.specs.Sheets.{widget, widgetStep}
 use Rattle.records.specs.Implementation.SizeCache.{isStep}
 use Rattle.records.specs.declared.Step.{Step}
 use Rattle.records.specs.declared.Step.the-variants.{Widget, Space, RowHeight, MaxWidth, MaxHeight, MinWidth, MinHeight, RowEnd}
 use Rattle.records.specs.declared.Record.{Record}
 use Rattle.records.specs.declared.Record.the-variants.{Wrong}
-use Rattle.sheet.proofs.WalkedPasses.{no-such}
 use Rattle.listing.specs.Implementation.ListWriter.{mark}
 
 -- a record with w W, or none
@@ -20,7 +19,7 @@ data Holds (w : ℕ) : Record → Type 0 where
   so : {r : Record} → widget r ≡ w → Holds w r
   wrong : Holds w Wrong
 
-either : {w : ℕ} (b : Bool) {x y : Record} → Holds w x → Holds w y → Holds w (pick b x y)
+either : {w : ℕ} (b : Bool) {x y : Record} → Holds w x → Holds w y → Holds w (cond b x y)
 either true p q = p
 either false p q = q
 
@@ -49,7 +48,7 @@ by-letter : (s : List ℕ) → Holds (mark s) (recordOf s)
 unfolding recordOf mark widgetStep
 by-letter s = go (eqb (letter s) 87)
   where
-    go : (c : Bool) → Holds (cond c 1 0) (pick c (widgetRecord s) (pick (eqb (letter s) 69) (stepRecord s 0 true RowEnd) (singleRecord s (letter s))))
+    go : (c : Bool) → Holds (cond c 1 0) (cond c (widgetRecord s) (cond (eqb (letter s) 69) (stepRecord s 0 true RowEnd) (singleRecord s (letter s))))
     go true = widget-one s
     go false = either (eqb (letter s) 69) (step-holds s 0 true RowEnd) (single-none s (letter s))
 
@@ -59,4 +58,4 @@ mark-is s h = go (recordOf s) (by-letter s) h
   where
     go : (r : Record) → Holds (mark s) r → isStep r ≡ true → mark s ≡ widget r
     go r (so e) h = sym e
-    go Wrong wrong h = no-such h
+    go Wrong wrong h = absurd (true≢false (sym h))

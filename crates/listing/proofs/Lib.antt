@@ -1,10 +1,10 @@
 -- The laws of the list, in the order of the argument.
-pub mod Puts
+mod Puts
 pub mod Texts
-pub mod Letters
-pub mod Written
+mod Letters
+mod Written
 pub mod Memories
 pub mod Places
 pub mod Printed
-pub mod Settled
+mod Settled
 pub mod LongTexts

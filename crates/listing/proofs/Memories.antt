@@ -9,8 +9,8 @@ use lib.IntN.{pos}
 use Rattle.emath.specs.Steps.{most}
 use Rattle.grid.specs.Memories.{emptyMemory}
 use Rattle.grid.specs.declared.Memory.{Memory}
-use Rattle.model.proofs.Embedding.{Upto, empty, upto}
-use Rattle.model.proofs.Ticks.{len}
+use Rattle.model.proofs.AnyNumbers.Embedding.{Upto, empty, upto}
+use Rattle.model.proofs.InFloats.Ticks.{len}
 use Rattle.sheet.specs.Pass.{Sheet, Ran, begun, headed, ranWith, plateOf, remembered, refusedAt, outcomeOf, pass}
 use Rattle.sheet.specs.Passes.{passes}
 use Rattle.pass_laws.specs.WholeSheets.{WholeSheet}

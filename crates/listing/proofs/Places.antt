@@ -24,7 +24,7 @@ use Rattle.records.specs.declared.Record.the-variants as record-of
 use Rattle.records.proofs.Prefixes.{few-records}
 use Rattle.records.proofs.Reached.{records-few}
 use Rattle.records.proofs.Checks.{record-is}
-use Rattle.sheet.specs.Pass.{Sheet, Ran, Stepped, called, followed, stepped, runFrom, headed, gridded, begun, ranWith, plateOf, remembered, refusedAt, outcomeOf, pass}
+use Rattle.sheet.specs.Pass.{Sheet, Ran, Stepped, called, followed, stepped, runFrom, headed, gridSet, begun, ranWith, plateOf, remembered, refusedAt, outcomeOf, pass}
 use Rattle.sheet.specs.Texts.{stepsOf, sheetIn}
 use Rattle.sheet.specs.Slices.{afterCheck, laid, controls}
 
@@ -118,10 +118,10 @@ pass-few k s known m sizing = outcome-few (s .heading .«has_grid») m _ _ (foll
     p = headed k (s .heading) .placer
 
     q : Placer
-    q = gridded (s .heading) known m sizing p .placer
+    q = gridSet (s .heading) known m sizing p .placer
 
-    go : (b : Bool) → cond b (followed (s .heading .records) (called (gridded (s .heading) known m sizing p)) (runFrom k (s .heading .spacing) (s .heading .records + 1) q (s .steps))) (runFrom k (s .heading .spacing) (s .heading .records + 1) p (s .steps)) .at ≤ s .heading .records + 1 + length (s .steps)
-    go true = followed-few (s .heading .records) (called (gridded (s .heading) known m sizing p)) (runFrom k (s .heading .spacing) (s .heading .records + 1) q (s .steps)) _ (omega arith) (run-few k (s .heading .spacing) (s .heading .records + 1) q (s .steps))
+    go : (b : Bool) → cond b (followed (s .heading .records) (called (gridSet (s .heading) known m sizing p)) (runFrom k (s .heading .spacing) (s .heading .records + 1) q (s .steps))) (runFrom k (s .heading .spacing) (s .heading .records + 1) p (s .steps)) .at ≤ s .heading .records + 1 + length (s .steps)
+    go true = followed-few (s .heading .records) (called (gridSet (s .heading) known m sizing p)) (runFrom k (s .heading .spacing) (s .heading .records + 1) q (s .steps)) _ (omega arith) (run-few k (s .heading .spacing) (s .heading .records + 1) q (s .steps))
     go false = omega (arith, run-few k (s .heading .spacing) (s .heading .records + 1) p (s .steps))
 
 pub laid-few : (text : List ℕ) (known : Bool) (m : Memory) (sizing : Bool) (out : List ℤ) → laid text known m sizing out .outcome .at ≤ 600

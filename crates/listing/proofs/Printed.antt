@@ -1,7 +1,7 @@
 -- What a call of `pass` gives can be printed, and what the code then puts is the list. Assumes nothing.
 use Prim.Native.Nat.{ℕ, zero, suc, _+_, _≤_, _<_}
 use mathlib.Core.Path.{_≡_, refl, ap, sym, _∙_, subst}
-use mathlib.Core.Bool.{Bool, true, false, cond, _&&_}
+use mathlib.Core.Bool.{Bool, true, false, cond, _&&_, true≢false}
 use mathlib.Core.List.{List, [], _++_}
 use native.Mathlib.Omega.{arith}
 use lib.Dec.{eqb}
@@ -30,7 +30,6 @@ use Rattle.sheet.specs.declared.Passed.{Passed}
 use Rattle.sheet.proofs.Slices as sheet-slices
 use Rattle.pass_laws.proofs.TextTicks.{text-whole}
 use Rattle.pass_laws.proofs.WholeEdges.{whole-pass}
-use Rattle.sheet.proofs.WalkedPasses.{no-such}
 use Rattle.sheet.proofs.Shown.{Shown, shown, no-number, pass-all}
 use Rattle.listing.specs.Lists.{printed, widgetLines, entryLines, memoryLines, acceptedLines, refusalLine, outcomeLines, answered, listOf, listIn}
 use Rattle.listing.specs.Implementation.ListWriter.{Put, putAccepted, WholeMemory, isAccepted, printable, Printable, putPassed}
@@ -214,7 +213,7 @@ module _ (text : List ℕ) (out between : List ℤ) (p : Passed) (full : length 
   accepted-laid : (l : Laid) (b : Bool) → isAccepted l && b ≡ true → (l ≡ Accepted) × (b ≡ true)
   unfolding isAccepted
   accepted-laid Accepted b h = (refl, h)
-  accepted-laid (Refused n at) b h = no-such h
+  accepted-laid (Refused n at) b h = absurd (true≢false (sym h))
 
   again : isAccepted (p .laid) && hasGrid text ≡ true → Again
   unfolding passes afterCheck
@@ -244,7 +243,7 @@ module _ (text : List ℕ) (out between : List ℤ) (p : Passed) (full : length 
     pub second-list : (P : Put) → P .at ≡ 0 → length (P .out) ≡ 40802 → laidNumber (q .laid) < 256 → putPassed (q .laid) text exit q P ≡ after P (listOf text)
     unfolding passes
     second-list P start room few =
-        puts-call text true (passes 5 (sheetIn text) emptyMemory 0 .memory) false between q exit with-first memory-second kept P start room (λ (e : sheetIn text .heading .«has_grid» ≡ false). no-such (sym e ∙ again h .grid)) few
+        puts-call text true (passes 5 (sheetIn text) emptyMemory 0 .memory) false between q exit with-first memory-second kept P start room (λ (e : sheetIn text .heading .«has_grid» ≡ false). absurd (true≢false (sym (sym e ∙ again h .grid)))) few
         ∙ ap (λ (l : List ℕ). after P l) (which-list true h)
 
 -- ---- the length, and the slice

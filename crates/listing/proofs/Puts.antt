@@ -1,7 +1,7 @@
 -- Lines one after the other, as the code writes them: a turn of each loop, and what each return answers. Assumes nothing.
 use Prim.Native.Nat.{ℕ, zero, suc, _+_, _-_, _≤_, _<_}
 use mathlib.Core.Path.{_≡_, refl, ap, sym, _∙_}
-use mathlib.Core.Bool.{Bool, true, false, cond, _&&_}
+use mathlib.Core.Bool.{Bool, true, false, cond, _&&_, true≢false}
 use mathlib.Core.List.{List, [], _∷_}
 use native.Mathlib.Omega.{arith}
 use native.Mathlib.Numerals.{add-one}
@@ -25,7 +25,6 @@ use Rattle.sheet.specs.Slices.{edges}
 use Rattle.sheet.specs.declared.Laid.{Laid}
 use Rattle.sheet.specs.declared.Laid.the-variants.{Accepted, Refused}
 use Rattle.sheet.specs.declared.Passed.{Passed}
-use Rattle.sheet.proofs.WalkedPasses.{no-such}
 use Rattle.listing.specs.Implementation.ListWriter.{Put, bytes, putLine, mark, placesOf, putWidget, putWidgets, putEntries, putMemory, putAccepted, putPassed, Whole, none, more}
 
 -- ---- put_line

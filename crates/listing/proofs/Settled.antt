@@ -2,7 +2,7 @@
 -- printed. Assumes nothing.
 use Prim.Native.Nat.{ℕ, _<_}
 use mathlib.Core.Path.{_≡_, refl, ap, sym, _∙_, subst}
-use mathlib.Core.Bool.{Bool, true, false, cond, _&&_}
+use mathlib.Core.Bool.{Bool, true, false, cond, _&&_, true≢false}
 use mathlib.Core.List.{List, []}
 use native.Mathlib.Omega.{arith}
 use lib.Dec.{eqb}
@@ -24,7 +24,6 @@ use Rattle.sheet.specs.Texts.{sheetIn}
 use Rattle.sheet.specs.Slices.{LaidOut, laidOf, laidNumber, passedOf, afterCheck, laid, Returns, Called}
 use Rattle.sheet.specs.Implementation.Walks.{Known}
 use Rattle.sheet.specs.declared.Passed.{Passed}
-use Rattle.sheet.proofs.WalkedPasses.{no-such}
 use Rattle.sheet.proofs.Returned.{called}
 use Rattle.sheet.proofs.Slices.{room-after, laid-length}
 use Rattle.listing.specs.Lists.{printed, settledFrom, settled, listOf}
@@ -69,7 +68,7 @@ module _ (text : List ℕ) (out : List ℤ) where
       where
         go : (b : Bool) → eqb (first .outcome .number) 0 ≡ b → b && hasGrid text ≡ true → first .outcome .number ≡ 0
         go true e f = eqb-true (first .outcome .number) 0 e
-        go false e f = no-such f
+        go false e f = absurd (true≢false (sym f))
 
     -- a second pass needs no second check
     pub known-again : (sizes : List Float) → length sizes ≡ 1026 → length between ≡ length out → isAccepted (p .laid) && hasGrid text ≡ true → Known text (length between) (cachedBy text sizes)

@@ -27,7 +27,7 @@ use Rattle.grid.proofs.Remembered.{entry-none}
 use Rattle.grid.specs.declared.Memory.{Memory}
 use Rattle.grid.specs.declared.GridLayout.{GridLayout}
 use Rattle.placer.specs.Rules.{saveGrid}
-use Rattle.placer.proofs.Accepted.{placer-grid}
+use Rattle.placer.proofs.Answers.{placer-grid}
 use Rattle.placer.proofs.Carried.{new-sound}
 use Rattle.placer.specs.declared.Placer.{Placer}
 use Rattle.sheet.specs.Pass.{Sheet, runFrom, pass}

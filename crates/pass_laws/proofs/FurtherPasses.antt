@@ -19,14 +19,14 @@ use Rattle.grid.specs.Grids.{knownMemory, newGrid}
 use Rattle.grid.specs.Refusals.{gridFault, fitsGrid, directionFault}
 use Rattle.grid.specs.declared.Memory.{Memory}
 use Rattle.placer.specs.Refusals.{placerFault, gridPart}
-use Rattle.placer.proofs.Accepted.{placer-grid}
+use Rattle.placer.proofs.Answers.{placer-grid}
 use Rattle.placer.proofs.WholeCalls.{new-whole}
 use Rattle.placer.proofs.Carried.{new-sound, new-down}
 use Rattle.placer.specs.declared.Placer.{Placer}
-use Rattle.model.proofs.Heights.{Run, heights-kept}
-use Rattle.model.proofs.Settled.{colsFrom}
-use Rattle.model.proofs.Embedding.{Upto, empty}
-use Rattle.model.proofs.Ticks.{len}
+use Rattle.model.proofs.WholeSteps.Heights.{Run, heights-kept}
+use Rattle.model.proofs.WholeSteps.Settled.{colsFrom}
+use Rattle.model.proofs.AnyNumbers.Embedding.{Upto, empty}
+use Rattle.model.proofs.InFloats.Ticks.{len}
 use Rattle.sheet.specs.Pass.{Sheet, Outcome, runFrom, pass}
 use Rattle.sheet.specs.Passes.{passes}
 use Rattle.pass_laws.specs.WholeSheets.{WholeSheet}

@@ -18,9 +18,9 @@ use Rattle.grid.specs.Grids as grid-rules
 use Rattle.grid.specs.Grids.{advanced, rowEnded}
 use Rattle.grid.proofs.Cells.{cell-width}
 use Rattle.placer.specs.Rules.{nextSpace, justifyAndAlign, advanceCursor, movedPast, advanceAfterRects, expandToIncludeRect, setCursor, endRow, setRowHeight, setMaxWidth, setMaxHeight, setMinWidth, setMinHeight, grownAcross, grownDown, expandToIncludeX, expandToIncludeY}
-use Rattle.placer.specs.Refusals.{placerFault, advanceFault, endRowFault, changed}
+use Rattle.placer.specs.Refusals.{placerFault, advanceFault, endRowFault, changedPlacer}
 use Rattle.placer.specs.Operations.{checkedAdvanceCursor, checkedEndRow, checkedSetRowHeight, checkedSetMaxWidth, checkedSetMaxHeight, checkedSetMinWidth, checkedSetMinHeight}
-use Rattle.placer.proofs.Accepted.{changed-accepted}
+use Rattle.placer.proofs.Answers.{changed-accepted}
 use Rattle.placer.specs.declared.Placer.{Placer}
 use Rattle.records.specs.declared.Step.{Step}
 use Rattle.records.specs.declared.Step.the-variants.{Space, RowHeight, MaxWidth, MaxHeight, MinWidth, MinHeight}
@@ -126,7 +126,7 @@ alone-if : (p q : Placer) (b : Bool) → LeftAlone p q → LeftAlone p (cond b p
 alone-if p q true a = record { still = refl; layout = refl; grid = refl }
 alone-if p q false a = a
 
-by-call : (n : ℕ) (p q : Placer) → LeftAlone p q → changed n p q .number ≡ 0 → LeftAlone p (changed n p q .placer)
+by-call : (n : ℕ) (p q : Placer) → LeftAlone p q → changedPlacer n p q .number ≡ 0 → LeftAlone p (changedPlacer n p q .placer)
 by-call n p q a h = let e = changed-accepted n p q h .2 in record { still = ap (λ (x : Placer). x .«has_grid») e ∙ a .still; layout = ap (λ (x : Placer). x .layout) e ∙ a .layout; grid = ap (λ (x : Placer). x .grid) e ∙ a .grid }
 
 module _ (k : ℕ) (p : Placer) where

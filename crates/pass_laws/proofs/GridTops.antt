@@ -15,10 +15,10 @@ use Rattle.grid.proofs.Cells.{next-cell-whole, align-size-within-rect-whole}
 use Rattle.grid.proofs.Advances.{Sound}
 use Rattle.grid.specs.declared.GridLayout.{GridLayout}
 use Rattle.placer.specs.Rules.{advanceCursor, setRowHeight, setMaxWidth, setMaxHeight, setMinWidth, setMinHeight}
-use Rattle.placer.specs.Refusals.{placerFault, changed}
+use Rattle.placer.specs.Refusals.{placerFault, changedPlacer}
 use Rattle.placer.specs.Operations.{checkedAdvanceCursor, checkedSetRowHeight, checkedEndRow, checkedSetMaxWidth, checkedSetMaxHeight, checkedSetMinWidth, checkedSetMinHeight}
 use Rattle.placer.specs.Steps.{WholeDown, WholeTops}
-use Rattle.placer.proofs.Accepted.{changed-accepted}
+use Rattle.placer.proofs.Answers.{changed-accepted}
 use Rattle.placer.proofs.WholeGrids.{advance-after-rects-tops, end-row-tops, set-max-width-tops, set-max-height-tops}
 use Rattle.placer.proofs.WholeTopsCalls.{set-min-width-tops, set-min-height-tops, set-row-height-tops}
 use Rattle.placer.proofs.WholeHeights.{advance-after-rects-down, end-row-down}
@@ -88,7 +88,7 @@ module _ (k : ℕ) (l : k ≤ 6) (sp : Vec2) (p : Placer) (i : OnSteps k p) wher
     tops = t;
   }
 
-  tops-by : (n : ℕ) (q : Placer) → (placerFault q ≡ 0 → WholeTops k q) → changed n p q .number ≡ 0 → WholeTops k (changed n p q .placer)
+  tops-by : (n : ℕ) (q : Placer) → (placerFault q ≡ 0 → WholeTops k q) → changedPlacer n p q .number ≡ 0 → WholeTops k (changedPlacer n p q .placer)
   tops-by n q f h = let c = changed-accepted n p q h in subst (WholeTops k) (sym (c .2)) (f (c .1))
 
   other-tops : {st : Step} → Other st → stepped k sp p st .number ≡ 0 → WholeTops k (stepped k sp p st .placer)

@@ -1,16 +1,16 @@
 -- The laws of a sheet's passes, in the order of the argument. Layers above cite them as Rattle.pass_laws.proofs.NAME.
 -- What a record does to a grid; the column law.
 pub mod GridMoves
-pub mod ColumnWidths
+mod ColumnWidths
 pub mod ColumnRuns
 pub mod Widest
 pub mod ColumnLaw
 -- A grid's memory settles; all further passes.
-pub mod GridTops
+mod GridTops
 pub mod Lists
 pub mod Listed
-pub mod RowHeights
-pub mod Settling
+mod RowHeights
+mod Settling
 pub mod FurtherPasses
 -- Whole steps.
 pub mod WholeTops

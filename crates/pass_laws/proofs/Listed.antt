@@ -22,11 +22,11 @@ use Rattle.grid.proofs.Advances.{Sound}
 use Rattle.placer.proofs.Carried.{empty-sound}
 use Rattle.grid.specs.declared.Memory.{Memory}
 use Rattle.grid.specs.declared.GridLayout.{GridLayout}
-use Rattle.model.proofs.Model.{lift}
-use Rattle.model.proofs.Embedding.{Upto, empty, upto-lift}
-use Rattle.model.proofs.Recorded.{raised-is}
-use Rattle.model.proofs.Ticks.{len}
-use Rattle.model.proofs.Floats.{exact}
+use Rattle.model.proofs.WholeSteps.Model.{lift}
+use Rattle.model.proofs.AnyNumbers.Embedding.{Upto, empty, upto-lift}
+use Rattle.model.proofs.AnyNumbers.Recorded.{raised-is}
+use Rattle.model.proofs.InFloats.Ticks.{len}
+use Rattle.model.proofs.InFloats.Floats.{exact}
 use Rattle.pass_laws.proofs.Lists.{count-max, list-raised}
 
 -- an array with a count is the list c

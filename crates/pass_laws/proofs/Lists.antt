@@ -11,9 +11,9 @@ use lib.Ieee.{Float, nan}
 use Rattle.emath.specs.Rectangles.{zeroF, maxF}
 use Rattle.grid.specs.Entries.{entry, cleared, raised}
 use Rattle.grid.specs.Memories.{raisedCount}
-use Rattle.model.proofs.Engine.{raise}
-use Rattle.model.proofs.Floats.{ops}
-use Rattle.model.proofs.Arrays.{entry-is, array-raised}
+use Rattle.model.proofs.AnyNumbers.Engine.{raise}
+use Rattle.model.proofs.InFloats.Floats.{ops}
+use Rattle.model.proofs.AnyNumbers.Arrays.{entry-is, array-raised}
 
 pub count-max : (n m : ℕ) → raisedCount n m ≡ max n m
 unfolding raisedCount

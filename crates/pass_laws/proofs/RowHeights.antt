@@ -15,9 +15,9 @@ use Rattle.emath.specs.declared.Rect.{Rect}
 use Rattle.emath.specs.declared.Vec2.{Vec2}
 use Rattle.grid.specs.Memories.{heights, rowHeight}
 use Rattle.grid.specs.Grids.{nextCell, alignSizeWithinRect, prevRowHeight}
-use Rattle.grid.proofs.Fair.{tall, tall-fair, widget-height}
+use Rattle.grid.proofs.WidgetHeights.{tall, tall-fair, widget-height}
 use Rattle.grid.specs.declared.GridLayout.{GridLayout}
-use Rattle.model.proofs.Ticks.{len, cap}
+use Rattle.model.proofs.InFloats.Ticks.{len, cap}
 use Rattle.pass_laws.proofs.Lists.{entry-get}
 
 -- the limit is at most 2 ^ 22 steps
@@ -64,9 +64,9 @@ module _ (k : ℕ) (l : k ≤ 6) (g : GridLayout) (c : Rect) (s : Vec2) (t : ℤ
       let B : Within 8388608 b = omega (arith, Ts, q, n) in
       let f : h ≤ 8388608 = omega (arith, n) in
       let i : t +ℤ pos h ≤ᶻ b = omega (arith, q, sum t (pos h)) in
-      let fair = tall-fair k (omega arith) t b A B h f i in
+      let bounds = tall-fair k (omega arith) t b A B h f i in
       let e = widget-height k (omega arith) t b A B h f i s (nextCell k g c s) frame-top frame-bottom size in
-      found (tall k (omega arith) t b A B h f i) (fair .0) (omega (arith, fair .1, diff b t, q)) e
+      found (tall k (omega arith) t b A B h f i) (bounds .0) (omega (arith, bounds .1, diff b t, q)) e
     where
       found : (z : ℤ) → pos h ≤ᶻ z → z ≤ᶻ pos (max h rh) → height (alignSizeWithinRect k s (nextCell k g c s)) ≡ val k z
           → (v : ℕ) × (h ≤ v) × (v ≤ max h rh) × (height (alignSizeWithinRect k s (nextCell k g c s)) ≡ len k v)

@@ -22,12 +22,12 @@ use Rattle.placer.specs.Operations.{checkedEndRow}
 use Rattle.placer.specs.declared.Placer.{Placer}
 use Rattle.records.specs.declared.Step.{Step}
 use Rattle.records.specs.declared.Step.the-variants.{Widget, Space, RowHeight, MaxWidth, MaxHeight, MinWidth, MinHeight, RowEnd}
-use Rattle.model.proofs.Model as model
-use Rattle.model.proofs.Model.{lift}
-use Rattle.model.proofs.Heights.{Run, done, placed, ended}
-use Rattle.model.proofs.Settled.{colsFrom}
-use Rattle.model.proofs.Embedding.{Upto, upto-getD}
-use Rattle.model.proofs.Ticks.{len}
+use Rattle.model.proofs.WholeSteps.Model as model
+use Rattle.model.proofs.WholeSteps.Model.{lift}
+use Rattle.model.proofs.WholeSteps.Heights.{Run, done, placed, ended}
+use Rattle.model.proofs.WholeSteps.Settled.{colsFrom}
+use Rattle.model.proofs.AnyNumbers.Embedding.{Upto, upto-getD}
+use Rattle.model.proofs.InFloats.Ticks.{len}
 use Rattle.sheet.specs.Pass.{stepped, runFrom, cellOf, widgetStep}
 use Rattle.pass_laws.specs.WholeSheets.{WholeSteps}
 use Rattle.sheet.specs.Ticks.{ticks}

@@ -14,7 +14,7 @@ use Rattle.text.specs.declared.Field.{Field}
 use Rattle.text.specs.declared.Field.the-variants as field
 use Rattle.text.proofs.RoundTrip.{at-is-text}
 use Rattle.records.specs.Parts.{letter, ends, points, inPoints, lengthIn, isLength, lengthValue}
-use Rattle.records.specs.Records.{pick, pairIn, rectIn, optionsIn, stepRecord, widgetRecord, singleRecord, recordOf, rest}
+use Rattle.records.specs.Records.{pairIn, rectIn, optionsIn, stepRecord, widgetRecord, singleRecord, recordOf, rest}
 use Rattle.records.specs.Headings.{hasGrid, noOptions, headingIn}
 use Rattle.records.specs.Sheets.{recordsFrom, stepsLeft}
 use Rattle.records.specs.declared.Step.{Step}
@@ -53,7 +53,7 @@ pub data WholeRecord : Record → Type 0 where
   step : {st : Step} → WholeSteps 5 (st ∷ []) → WholeRecord (record-of.Step st)
   wrong : WholeRecord record-of.Wrong
 
-either : (b : Bool) {x y : Record} → WholeRecord x → WholeRecord y → WholeRecord (pick b x y)
+either : (b : Bool) {x y : Record} → WholeRecord x → WholeRecord y → WholeRecord (cond b x y)
 either true p q = p
 either false p q = q
 

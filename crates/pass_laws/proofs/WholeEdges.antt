@@ -17,10 +17,10 @@ use Rattle.region.specs.Refusals.{zeroRect}
 use Rattle.emath.specs.declared.Vec2.{Vec2}
 use Rattle.region.specs.Steps.{WholeRect, WholeSize}
 use Rattle.placer.specs.Rules.{newPlacer, advanceAfterRects, movedPast, expandToIncludeRect, setCursor, endRow, advanceCursor, setRowHeight, setMaxWidth, setMaxHeight, setMinWidth, setMinHeight}
-use Rattle.placer.specs.Refusals.{placerFault, changed}
+use Rattle.placer.specs.Refusals.{placerFault, changedPlacer}
 use Rattle.placer.specs.Operations.{checkedAdvanceCursor, checkedSetRowHeight, checkedEndRow, checkedSetMaxWidth, checkedSetMaxHeight, checkedSetMinWidth, checkedSetMinHeight}
 use Rattle.placer.specs.Steps.{WholePlacer}
-use Rattle.placer.proofs.Accepted.{changed-accepted}
+use Rattle.placer.proofs.Answers.{changed-accepted}
 use Rattle.placer.proofs.WholeCalls.{new-whole, advance-cursor-whole-steps, set-row-height-whole-steps, advance-after-rects-layout, end-row-layout}
 use Rattle.placer.proofs.WholePlacers.{set-max-width-whole, set-max-height-whole, set-min-width-whole, set-min-height-whole}
 use Rattle.grid.specs.declared.Memory.{Memory}
@@ -29,7 +29,7 @@ use Rattle.placer.specs.declared.PlacerAnswer.{PlacerAnswer}
 use Rattle.records.specs.declared.Step.{Step}
 use Rattle.records.specs.declared.Step.the-variants.{Widget, Space, RowHeight, MaxWidth, MaxHeight, MinWidth, MinHeight, RowEnd}
 use Rattle.pass_laws.specs.WholeCells.{WholeCells, none, more}
-use Rattle.sheet.specs.Pass.{Sheet, Cell, Stepped, Ran, cellOf, widgetStep, called, stepped, followed, runFrom, headed, gridded, begun, ranWith, plateOf, pass}
+use Rattle.sheet.specs.Pass.{Sheet, Cell, Stepped, Ran, cellOf, widgetStep, called, stepped, followed, runFrom, headed, gridSet, begun, ranWith, plateOf, pass}
 use Rattle.pass_laws.specs.WholeSheets.{WholeSteps, WholeSheet}
 use Rattle.sheet.proofs.Runs.{widget-placed, run-goes}
 use Rattle.sheet.proofs.Passes.{Ended, well, badly, outcome-ends, grid-pass, PlainPass, plain-pass, start}
@@ -77,7 +77,7 @@ module _ (k : ℕ) (l : k ≤ 7) where
   ran-cells s known m sizing p = go (s .heading .«has_grid»)
     where
       g : PlacerAnswer
-      g = gridded (s .heading) known m sizing p
+      g = gridSet (s .heading) known m sizing p
 
       go : (b : Bool) → WholeCells k (cond b (followed (s .heading .records) (called g) (runFrom k (s .heading .spacing) (s .heading .records + 1) (g .placer) (s .steps))) (runFrom k (s .heading .spacing) (s .heading .records + 1) p (s .steps)) .cells)
       go true = followed-cells (s .heading .records) (called g) _ (λ (e : g .number ≡ 0). none) (run-cells (s .heading .spacing) (s .heading .records + 1) (g .placer) (s .steps))
@@ -97,7 +97,7 @@ module _ (k : ℕ) (l : k ≤ 6) (sp : Vec2) (S : WholeSize k sp) where
     pub plain : p .«has_grid» ≡ false
     pub whole : WholePlacer k p
 
-  by-call : (n : ℕ) (p q : Placer) → LeftAlone p q → Plain p → (placerFault q ≡ 0 → WholePlacer k q) → changed n p q .number ≡ 0 → Plain (changed n p q .placer)
+  by-call : (n : ℕ) (p q : Placer) → LeftAlone p q → Plain p → (placerFault q ≡ 0 → WholePlacer k q) → changedPlacer n p q .number ≡ 0 → Plain (changedPlacer n p q .placer)
   by-call n p q a i f h = let c = changed-accepted n p q h in subst Plain (sym (c .2)) (record { plain = a .still ∙ i .plain; whole = f (c .1) })
 
   module _ (p : Placer) (i : Plain p) where

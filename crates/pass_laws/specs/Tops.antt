@@ -9,7 +9,7 @@ use Rattle.grid.specs.declared.Memory.{Memory}
 use Rattle.placer.specs.declared.Placer.{Placer}
 use Rattle.records.specs.declared.Step.{Step}
 use Rattle.records.specs.declared.Step.the-variants.{Widget, Space, RowHeight, MaxWidth, MaxHeight, MinWidth, MinHeight, RowEnd}
-use Rattle.sheet.specs.Pass.{Sheet, stepped, headed, gridded}
+use Rattle.sheet.specs.Pass.{Sheet, stepped, headed, gridSet}
 
 -- RULES 10.8: it is at each W among the records, from the placer p on
 unfoldable pub FindsTops : ℕ → Vec2 → Placer → List Step → Type 0
@@ -25,7 +25,7 @@ FindsTops k sp p (MinHeight h ∷ rest) = FindsTops k sp (stepped k sp p (MinHei
 
 -- RULES 10.8: each W of a pass over a grid sheet, with a memory or none, sizing or not
 abbrev pub TopsOnSteps : ℕ → Sheet → Bool → Memory → Bool → Type 0
-TopsOnSteps k s known m sizing = FindsTops k (s .heading .spacing) (gridded (s .heading) known m sizing (headed k (s .heading) .placer) .placer) (s .steps)
+TopsOnSteps k s known m sizing = FindsTops k (s .heading .spacing) (gridSet (s .heading) known m sizing (headed k (s .heading) .placer) .placer) (s .steps)
 
 -- RULES 10.9: no record is a K
 pub data NoK : List Step → Type 0 where

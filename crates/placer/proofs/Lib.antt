@@ -1,6 +1,6 @@
 -- The laws, in the order of the argument. Layers above cite them as Rattle.placer.proofs.NAME.
-pub mod Accepted
-pub mod Parts
+pub mod Answers
+mod Parts
 pub mod Unfaulted
 pub mod WholePlacers
 pub mod WholeCalls
@@ -8,4 +8,4 @@ pub mod WholeGrids
 pub mod WholeHeights
 pub mod Carried
 pub mod WholeTopsCalls
-pub mod Kept
+mod Kept

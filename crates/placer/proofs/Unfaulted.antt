@@ -13,7 +13,7 @@ use Rattle.region.specs.Refusals.{regionFault}
 use Rattle.grid.specs.Refusals.{gridFault, directionFault}
 use Rattle.grid.proofs.Unfaulted.{lesser-zero, zero-lesser, advance-fault, end-row-fault}
 use Rattle.placer.specs.Rules.{withRegion, setCursor, expandToIncludeRect, movedPast, advanceAfterRects, endRow}
-use Rattle.placer.specs.Refusals.{gridPart, placerFault, advanceFault, placerAnswer, changed}
+use Rattle.placer.specs.Refusals.{gridPart, placerFault, advanceFault, placerAnswer, changedPlacer}
 use Rattle.placer.specs.Implementation.Lent.{raisedPart, pastPart}
 use Rattle.placer.proofs.Parts.{ended, row-ended}
 use Rattle.emath.specs.declared.Rect.{Rect}
@@ -31,8 +31,8 @@ module _ (p : Placer) (none : placerFault p ≡ 0) where
   region-fault r = let h : cond (p .«has_grid») (least (gridFault (p .grid) ∷ directionFault (p .layout .«main_dir») ∷ [])) 0 ≡ 0 = grid-none in rw h (lesser-zero (regionFault (p .layout .«main_dir») r))
 
   -- what a call answers, with its new placer's number known
-  pub changed-is : (before n : ℕ) (new : Placer) → placerFault new ≡ n → changed (least (placerFault p ∷ before ∷ [])) p new ≡ placerAnswer (orElse before (outside n)) p new
-  unfolding changed least
+  pub changed-is : (before n : ℕ) (new : Placer) → placerFault new ≡ n → changedPlacer (least (placerFault p ∷ before ∷ [])) p new ≡ placerAnswer (orElse before (outside n)) p new
+  unfolding changedPlacer least
   changed-is before n new e = rw (none, zero-lesser, e)
 
   -- ---- in a grid
@@ -49,7 +49,7 @@ module _ (p : Placer) (none : placerFault p ≡ 0) where
 
     -- what an end of row answers
     pub row-ended-is : (before : ℕ) (sp : Vec2)
-        → placerAnswer (orElse before (outside (regionFault (p .layout .«main_dir») (ended p .region)))) p (ended p) ≡ changed (least (placerFault p ∷ before ∷ [])) p (endRow p sp)
+        → placerAnswer (orElse before (outside (regionFault (p .layout .«main_dir») (ended p .region)))) p (ended p) ≡ changedPlacer (least (placerFault p ∷ before ∷ [])) p (endRow p sp)
     row-ended-is before sp =
         ap (λ (q : Placer). placerAnswer (orElse before (outside (regionFault (p .layout .«main_dir») (q .region)))) p q) (row-ended p sp on)
         ∙ sym (changed-is before (regionFault (p .layout .«main_dir») (endRow p sp .region)) (endRow p sp) (row-ended-fault sp))

@@ -19,7 +19,7 @@ use Rattle.layout.proofs.Seeds.{region-from-max-rect-whole}
 use Rattle.placer.specs.Refusals.{placerFault}
 use Rattle.placer.specs.Rules.{newPlacer, withRegion, setCursor, forceSetMinRect, advanceCursor, movedPast, advanceAfterRects, endRow, setRowHeight, expandToIncludeRect, expandToIncludeX, expandToIncludeY}
 use Rattle.placer.specs.Steps.{WholePlacer}
-use Rattle.placer.proofs.Accepted.{placer-region}
+use Rattle.placer.proofs.Answers.{placer-region}
 use Rattle.emath.specs.declared.Rect.{Rect}
 use Rattle.emath.specs.declared.Vec2.{Vec2}
 use Rattle.region.specs.declared.Direction.{Direction}

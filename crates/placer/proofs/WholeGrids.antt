@@ -26,7 +26,7 @@ use Rattle.grid.specs.Refusals.{fitsGrid}
 use Rattle.placer.specs.Refusals.{placerFault}
 use Rattle.placer.specs.Rules.{setCursor, movedPast, advanceAfterRects, endRow, expandToIncludeRect, nextWidgetSpaceIgnoreWrapJustify, limitedAcross, limitedDown, setMaxWidth, setMaxHeight}
 use Rattle.placer.specs.Steps.{WholePlacer, WholeAcross, WholeDown, WholeTops}
-use Rattle.placer.proofs.Accepted.{placer-region}
+use Rattle.placer.proofs.Answers.{placer-region}
 use Rattle.placer.proofs.WholePlacers.{WholeIf, RectIf, RegionIf, edge-whole-if, rect-if, region-if, rect-whole, region-whole, space-if, union-if}
 use Rattle.emath.specs.declared.Rect.{Rect}
 use Rattle.emath.specs.declared.Vec2.{Vec2}

@@ -27,7 +27,7 @@ use Rattle.grid.proofs.Advances.{Sound, row-without-cell}
 use Rattle.placer.specs.Refusals.{placerFault}
 use Rattle.placer.specs.Rules.{movedPast, advanceAfterRects, expandToIncludeRect, setCursor, endRow}
 use Rattle.placer.specs.Steps.{WholeDown}
-use Rattle.placer.proofs.Accepted.{placer-grid}
+use Rattle.placer.proofs.Answers.{placer-grid}
 use Rattle.placer.proofs.WholePlacers.{WholeIf, max-whole-if, zero-whole-if}
 use Rattle.emath.specs.declared.Rect.{Rect}
 use Rattle.emath.specs.declared.Vec2.{Vec2}

@@ -20,14 +20,14 @@ use Rattle.region.specs.Regions as regions
 use Rattle.layout.specs.Rules as layout-rules
 use Rattle.region.specs.Regions.{infinity}
 use Rattle.layout.specs.Layouts.{align2}
-use Rattle.region.specs.Refusals.{excused, closed, cursorFault, regionFault}
+use Rattle.region.specs.Refusals.{zeroIfOpen, closed, cursorFault, regionFault}
 use Rattle.region.specs.Steps.{WholeRect, WholeRegion}
 use Rattle.region.proofs.Answers.{region-none}
 use Rattle.region.proofs.WholeRegions.{eq-inf-is, neg-infinity}
 use Rattle.placer.specs.Refusals.{placerFault}
 use Rattle.placer.specs.Rules.{withRegion, expandToIncludeX, expandToIncludeY, nextWidgetSpaceIgnoreWrapJustify, limitedAcross, limitedDown, setMaxWidth, setMaxHeight, grownAcross, grownDown, setMinWidth, setMinHeight}
 use Rattle.placer.specs.Steps.{WholePlacer}
-use Rattle.placer.proofs.Accepted.{placer-region}
+use Rattle.placer.proofs.Answers.{placer-region}
 use Rattle.emath.specs.declared.Rect.{Rect}
 use Rattle.emath.specs.declared.Vec2.{Vec2}
 use Rattle.region.specs.declared.Direction.{Direction}
@@ -64,9 +64,9 @@ module _ (k : ℕ) (l : k ≤ 6) where
   pub zero-whole-if : WholeIf k zeroF
   zero-whole-if t = grid-edge k (omega arith) (zero-grid k (omega arith)) t
 
-  -- an open edge, excused or not
-  open-whole-if : (i : Float) {v : Float} → WholeIf k v → WholeIf k (excused i v)
-  unfolding excused
+  -- an open edge, zeroIfOpen or not
+  open-whole-if : (i : Float) {v : Float} → WholeIf k v → WholeIf k (zeroIfOpen i v)
+  unfolding zeroIfOpen
   open-whole-if i {v} f = go (eq v i)
     where
       go : (b : Bool) → WholeIf k (cond b zeroF v)
@@ -106,9 +106,9 @@ module _ (k : ℕ) (l : k ≤ 6) where
         cursor = rect-whole (closed d (g .cursor)) (closed-if d (g .cursor) (w .cursor)) (unfold cursorFault in p .2);
       }
 
-  -- back: what is excused is an infinity, which is not within the limit
-  unopened : (t : Bool) (v : Float) → Edge k (excused (inf t) v) → WholeIf k v
-  unfolding excused
+  -- back: what is zeroIfOpen is an infinity, which is not within the limit
+  unopened : (t : Bool) (v : Float) → Edge k (zeroIfOpen (inf t) v) → WholeIf k v
+  unfolding zeroIfOpen
   unopened t v e = go (eq v (inf t)) (eq-inf-is t v) e
     where
       go : (b : Bool) → (b ≡ true → v ≡ inf t) → Edge k (cond b zeroF v) → WholeIf k v

@@ -9,7 +9,7 @@ use Rattle.region.specs.Refusals.{rectAnswer, cursorFault, posAnswer, sizeAnswe
 use Rattle.region.specs.Operations.{placedNumber, framedNumber}
 use Rattle.grid.specs.Refusals.{gridFault, directionFault, savedAnswer}
 use Rattle.placer.specs.Rules.{newPlacer, setGrid, saveGrid, forceSetMinRect, setCursor, alignSizeWithinRect, availableRectBeforeWrap, availableSize, nextSpace, nextWidgetPosition, justifyAndAlign, advanceCursor, expandToIncludeRect, expandToIncludeX, expandToIncludeY, advanceAfterRects, endRow, setRowHeight, nextWidgetSpaceIgnoreWrapJustify, setMaxWidth, setMaxHeight, setMinWidth, setMinHeight}
-use Rattle.placer.specs.Refusals.{placerFault, advanceFault, endRowFault, zeroPlacer, changed}
+use Rattle.placer.specs.Refusals.{placerFault, advanceFault, endRowFault, zeroPlacer, changedPlacer}
 use Rattle.emath.specs.declared.Rect.{Rect}
 use Rattle.emath.specs.declared.Vec2.{Vec2}
 use Rattle.layout.specs.declared.Layout.{Layout}
@@ -23,10 +23,10 @@ use Rattle.placer.specs.declared.PlacerAnswer.{PlacerAnswer}
 
 -- ---- RULES 8.17: a placer and its grid
 unfoldable pub checkedNew : ℕ → Rect → Layout → PlacerAnswer
-checkedNew k m l = changed (rectFault m) (zeroPlacer l) (newPlacer k m l)
+checkedNew k m l = changedPlacer (rectFault m) (zeroPlacer l) (newPlacer k m l)
 
 unfoldable pub checkedSetGrid : Placer → GridLayout → PlacerAnswer
-checkedSetGrid p g = changed (least (placerFault p ∷ gridFault g ∷ directionFault (p .layout .«main_dir») ∷ [])) p (setGrid p g)
+checkedSetGrid p g = changedPlacer (least (placerFault p ∷ gridFault g ∷ directionFault (p .layout .«main_dir») ∷ [])) p (setGrid p g)
 
 -- refused, the memory is the one that the pass was given
 unfoldable pub checkedSaveGrid : Placer → SavedAnswer
@@ -34,10 +34,10 @@ checkedSaveGrid p = savedAnswer (placerFault p) (p .grid .«prev_state») (saveG
 
 -- ---- RULES 8.17: a rectangle of the region set anew
 unfoldable pub checkedForceSetMinRect : Placer → Rect → PlacerAnswer
-checkedForceSetMinRect p m = changed (least (placerFault p ∷ rectFault m ∷ [])) p (forceSetMinRect p m)
+checkedForceSetMinRect p m = changedPlacer (least (placerFault p ∷ rectFault m ∷ [])) p (forceSetMinRect p m)
 
 unfoldable pub checkedSetCursor : Placer → Rect → PlacerAnswer
-checkedSetCursor p c = changed (least (placerFault p ∷ cursorFault (p .layout .«main_dir») c ∷ [])) p (setCursor p c)
+checkedSetCursor p c = changedPlacer (least (placerFault p ∷ cursorFault (p .layout .«main_dir») c ∷ [])) p (setCursor p c)
 
 -- ---- RULES 8.17: queries. Of each first its number, then what it answers; a frame or cell may not be inside out (RULES 8.14).
 unfoldable pub alignSizeWithinRectNumber : ℕ → Placer → Vec2 → Rect → ℕ
@@ -79,28 +79,28 @@ checkedJustifyAndAlign k p r s = rectAnswer (justifyAndAlignNumber k p r s) (jus
 -- ---- RULES 8.17: calls that move the cursor
 -- 7 in a grid, by 0 too (RULES 8.11)
 unfoldable pub checkedAdvanceCursor : Placer → Float → PlacerAnswer
-checkedAdvanceCursor p a = changed (least (placerFault p ∷ lengthFault a ∷ when (p .«has_grid») number.notInGrid ∷ [])) p (advanceCursor p a)
+checkedAdvanceCursor p a = changedPlacer (least (placerFault p ∷ lengthFault a ∷ when (p .«has_grid») number.notInGrid ∷ [])) p (advanceCursor p a)
 
 -- 8 in a grid that is full
 unfoldable pub checkedAdvanceAfterRects : Placer → Rect → Rect → Vec2 → PlacerAnswer
 checkedAdvanceAfterRects p f w sp =
-    changed (least (placerFault p ∷ rectFault f ∷ rectFault w ∷ pairFault (sp .x) (sp .y) ∷ advanceFault p ∷ [])) p (advanceAfterRects p f w sp)
+    changedPlacer (least (placerFault p ∷ rectFault f ∷ rectFault w ∷ pairFault (sp .x) (sp .y) ∷ advanceFault p ∷ [])) p (advanceAfterRects p f w sp)
 
 unfoldable pub checkedEndRow : Placer → Vec2 → PlacerAnswer
-checkedEndRow p sp = changed (least (placerFault p ∷ pairFault (sp .x) (sp .y) ∷ endRowFault p ∷ [])) p (endRow p sp)
+checkedEndRow p sp = changedPlacer (least (placerFault p ∷ pairFault (sp .x) (sp .y) ∷ endRowFault p ∷ [])) p (endRow p sp)
 
 -- ---- RULES 8.17: the layout's and the region's calls, in a grid too
 unfoldable pub checkedSetRowHeight : Placer → Float → PlacerAnswer
-checkedSetRowHeight p h = changed (least (placerFault p ∷ lengthFault h ∷ [])) p (setRowHeight p h)
+checkedSetRowHeight p h = changedPlacer (least (placerFault p ∷ lengthFault h ∷ [])) p (setRowHeight p h)
 
 unfoldable pub checkedExpandToIncludeRect : Placer → Rect → PlacerAnswer
-checkedExpandToIncludeRect p r = changed (least (placerFault p ∷ rectFault r ∷ [])) p (expandToIncludeRect p r)
+checkedExpandToIncludeRect p r = changedPlacer (least (placerFault p ∷ rectFault r ∷ [])) p (expandToIncludeRect p r)
 
 unfoldable pub checkedExpandToIncludeX : Placer → Float → PlacerAnswer
-checkedExpandToIncludeX p x = changed (least (placerFault p ∷ lengthFault x ∷ [])) p (expandToIncludeX p x)
+checkedExpandToIncludeX p x = changedPlacer (least (placerFault p ∷ lengthFault x ∷ [])) p (expandToIncludeX p x)
 
 unfoldable pub checkedExpandToIncludeY : Placer → Float → PlacerAnswer
-checkedExpandToIncludeY p y = changed (least (placerFault p ∷ lengthFault y ∷ [])) p (expandToIncludeY p y)
+checkedExpandToIncludeY p y = changedPlacer (least (placerFault p ∷ lengthFault y ∷ [])) p (expandToIncludeY p y)
 
 unfoldable pub nextWidgetSpaceIgnoreWrapJustifyNumber : ℕ → Placer → Vec2 → ℕ
 nextWidgetSpaceIgnoreWrapJustifyNumber k p s = placedNumber (least (placerFault p ∷ sizeFault s ∷ [])) (nextWidgetSpaceIgnoreWrapJustify k p s)
@@ -111,14 +111,14 @@ checkedNextWidgetSpaceIgnoreWrapJustify k p s = rectAnswer (nextWidgetSpaceIgnor
 -- ---- RULES 8.17: limits
 -- 6 for a largest width or height below zero (RULES 8.10)
 unfoldable pub checkedSetMaxWidth : ℕ → Placer → Float → PlacerAnswer
-checkedSetMaxWidth k p w = changed (least (placerFault p ∷ extentFault w ∷ [])) p (setMaxWidth k p w)
+checkedSetMaxWidth k p w = changedPlacer (least (placerFault p ∷ extentFault w ∷ [])) p (setMaxWidth k p w)
 
 unfoldable pub checkedSetMaxHeight : ℕ → Placer → Float → PlacerAnswer
-checkedSetMaxHeight k p h = changed (least (placerFault p ∷ extentFault h ∷ [])) p (setMaxHeight k p h)
+checkedSetMaxHeight k p h = changedPlacer (least (placerFault p ∷ extentFault h ∷ [])) p (setMaxHeight k p h)
 
 -- a least width or height may be below zero
 unfoldable pub checkedSetMinWidth : ℕ → Placer → Float → PlacerAnswer
-checkedSetMinWidth k p w = changed (least (placerFault p ∷ lengthFault w ∷ [])) p (setMinWidth k p w)
+checkedSetMinWidth k p w = changedPlacer (least (placerFault p ∷ lengthFault w ∷ [])) p (setMinWidth k p w)
 
 unfoldable pub checkedSetMinHeight : ℕ → Placer → Float → PlacerAnswer
-checkedSetMinHeight k p h = changed (least (placerFault p ∷ lengthFault h ∷ [])) p (setMinHeight k p h)
+checkedSetMinHeight k p h = changedPlacer (least (placerFault p ∷ lengthFault h ∷ [])) p (setMinHeight k p h)

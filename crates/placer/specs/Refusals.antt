@@ -36,5 +36,5 @@ unfoldable pub placerAnswer : ℕ → Placer → Placer → PlacerAnswer
 placerAnswer n given new = record { number = n; placer = cond (eqb n 0) new given }
 
 -- RULES 8.13: the arguments' number, or else 9 where the new placer has a fault of its own
-unfoldable pub changed : ℕ → Placer → Placer → PlacerAnswer
-changed before given new = placerAnswer (orElse before (outside (placerFault new))) given new
+unfoldable pub changedPlacer : ℕ → Placer → Placer → PlacerAnswer
+changedPlacer before given new = placerAnswer (orElse before (outside (placerFault new))) given new

@@ -1,7 +1,7 @@
 // Cores for a pass: the records that are one call each. A placer without fault is not checked again: a new one's number is the region's.
-use crate::BarePlacer;
-use crate::Spot;
-use crate::SpotAnswer;
+use crate::PassState;
+use crate::PlacerSettings;
+use crate::StateAnswer;
 use crate::faults::row_fault;
 use crate::limits;
 use emath::Vec2;
@@ -25,30 +25,30 @@ ghost use lib.Ieee.{Float};
 ghost use Rattle.emath.specs.Steps.{tick};
 ghost use Rattle.emath.specs.Refusals.{least};
 ghost use Rattle.emath.specs.declared.Vec2.{Vec2 as Spacing};
-ghost use Rattle.placer.specs.declared.BarePlacer.{BarePlacer as Bare};
-ghost use Rattle.placer.specs.declared.Spot.{Spot as Given};
+ghost use Rattle.placer.specs.declared.PlacerSettings.{PlacerSettings as Settings};
+ghost use Rattle.placer.specs.declared.PassState.{PassState as Given};
 ghost use Rattle.placer.specs.Rules.{withRegion, endRow};
-ghost use Rattle.placer.specs.Refusals.{placerFault, placerAnswer, changed};
+ghost use Rattle.placer.specs.Refusals.{placerFault, placerAnswer, changedPlacer};
 ghost use Rattle.placer.specs.Operations.{checkedAdvanceCursor, checkedEndRow, checkedSetRowHeight, checkedSetMaxWidth, checkedSetMaxHeight, checkedSetMinWidth, checkedSetMinHeight};
 ghost use Rattle.placer.specs.Implementation.Lent.{placerOf, answerOf};
 
-fn answer(number: u8, new: Spot) -> SpotAnswer
-    ensures { λ a. ⌜ ((p : Bare) (s : Given) (pw ph ws hs : List Float) → answerOf p s a pw ph ws hs ≡ placerAnswer number (placerOf p s pw ph ws hs) (placerOf p new pw ph ws hs)) ⌝ }
+fn answer(number: u8, new: PassState) -> StateAnswer
+    ensures { λ a. ⌜ ((p : Settings) (s : Given) (pw ph ws hs : List Float) → answerOf p s a pw ph ws hs ≡ placerAnswer number (placerOf p s pw ph ws hs) (placerOf p new pw ph ws hs)) ⌝ }
 {
     if number == 0 {
-        SpotAnswer::Changed(new)
+        StateAnswer::Changed(new)
     } else {
-        SpotAnswer::Refused(number)
+        StateAnswer::Refused(number)
     }
 }
 
 // A call that sets the region anew; `before` is its arguments' number.
-fn settled(placer: BarePlacer, spot: Spot, before: u8, region: Region) -> SpotAnswer
-    ensures { λ a. ⌜ ((pw ph ws hs : List Float) → placerFault (placerOf placer spot pw ph ws hs) ≡ 0 → answerOf placer spot a pw ph ws hs ≡ changed (least (placerFault (placerOf placer spot pw ph ws hs) ∷ before ∷ [])) (placerOf placer spot pw ph ws hs) (withRegion (placerOf placer spot pw ph ws hs) region)) ⌝ }
+fn settled(placer: PlacerSettings, state: PassState, before: u8, region: Region) -> StateAnswer
+    ensures { λ a. ⌜ ((pw ph ws hs : List Float) → placerFault (placerOf placer state pw ph ws hs) ≡ 0 → answerOf placer state a pw ph ws hs ≡ changedPlacer (least (placerFault (placerOf placer state pw ph ws hs) ∷ before ∷ [])) (placerOf placer state pw ph ws hs) (withRegion (placerOf placer state pw ph ws hs) region)) ⌝ }
 {
     let l = placer.layout;
     let d = l.main_dir;
-    let mut new = spot;
+    let mut new = state;
     new.region = region;
     answer(
         or_else(before, outside_domain(region_fault(d, region))),
@@ -56,8 +56,8 @@ fn settled(placer: BarePlacer, spot: Spot, before: u8, region: Region) -> SpotAn
     )
 }
 
-pub fn advance_cursor(placer: BarePlacer, spot: Spot, amount: f32) -> SpotAnswer
-    ensures { λ a. ⌜ ((pw ph ws hs : List Float) → placerFault (placerOf placer spot pw ph ws hs) ≡ 0 → answerOf placer spot a pw ph ws hs ≡ checkedAdvanceCursor (placerOf placer spot pw ph ws hs) amount) ⌝ }
+pub fn advance_cursor(placer: PlacerSettings, state: PassState, amount: f32) -> StateAnswer
+    ensures { λ a. ⌜ ((pw ph ws hs : List Float) → placerFault (placerOf placer state pw ph ws hs) ≡ 0 → answerOf placer state a pw ph ws hs ≡ checkedAdvanceCursor (placerOf placer state pw ph ws hs) amount) ⌝ }
 {
     let l = placer.layout;
     let d = l.main_dir;
@@ -67,102 +67,107 @@ pub fn advance_cursor(placer: BarePlacer, spot: Spot, amount: f32) -> SpotAnswer
     );
     settled(
         placer,
-        spot,
+        state,
         before,
-        cursors::advance_cursor(d, spot.region, amount),
+        cursors::advance_cursor(d, state.region, amount),
     )
 }
 
-pub fn set_row_height(placer: BarePlacer, spot: Spot, height: f32) -> SpotAnswer
-    ensures { λ a. ⌜ ((pw ph ws hs : List Float) → placerFault (placerOf placer spot pw ph ws hs) ≡ 0 → answerOf placer spot a pw ph ws hs ≡ checkedSetRowHeight (placerOf placer spot pw ph ws hs) height) ⌝ }
+pub fn set_row_height(placer: PlacerSettings, state: PassState, height: f32) -> StateAnswer
+    ensures { λ a. ⌜ ((pw ph ws hs : List Float) → placerFault (placerOf placer state pw ph ws hs) ≡ 0 → answerOf placer state a pw ph ws hs ≡ checkedSetRowHeight (placerOf placer state pw ph ws hs) height) ⌝ }
 {
     settled(
         placer,
-        spot,
+        state,
         length_fault(height),
-        cursors::set_row_height(placer.layout, spot.region, height),
+        cursors::set_row_height(placer.layout, state.region, height),
     )
 }
 
-pub fn set_max_width(placer: BarePlacer, spot: Spot, width: f32) -> SpotAnswer
-    ensures { λ a. ⌜ ((pw ph ws hs : List Float) → placerFault (placerOf placer spot pw ph ws hs) ≡ 0 → answerOf placer spot a pw ph ws hs ≡ checkedSetMaxWidth tick (placerOf placer spot pw ph ws hs) width) ⌝ }
+pub fn set_max_width(placer: PlacerSettings, state: PassState, width: f32) -> StateAnswer
+    ensures { λ a. ⌜ ((pw ph ws hs : List Float) → placerFault (placerOf placer state pw ph ws hs) ≡ 0 → answerOf placer state a pw ph ws hs ≡ checkedSetMaxWidth tick (placerOf placer state pw ph ws hs) width) ⌝ }
 {
     settled(
         placer,
-        spot,
+        state,
         extent_fault(width),
-        limits::max_width(placer.layout, spot.region, width),
+        limits::max_width(placer.layout, state.region, width),
     )
 }
 
-pub fn set_max_height(placer: BarePlacer, spot: Spot, height: f32) -> SpotAnswer
-    ensures { λ a. ⌜ ((pw ph ws hs : List Float) → placerFault (placerOf placer spot pw ph ws hs) ≡ 0 → answerOf placer spot a pw ph ws hs ≡ checkedSetMaxHeight tick (placerOf placer spot pw ph ws hs) height) ⌝ }
+pub fn set_max_height(placer: PlacerSettings, state: PassState, height: f32) -> StateAnswer
+    ensures { λ a. ⌜ ((pw ph ws hs : List Float) → placerFault (placerOf placer state pw ph ws hs) ≡ 0 → answerOf placer state a pw ph ws hs ≡ checkedSetMaxHeight tick (placerOf placer state pw ph ws hs) height) ⌝ }
 {
     settled(
         placer,
-        spot,
+        state,
         extent_fault(height),
-        limits::max_height(placer.layout, spot.region, height),
+        limits::max_height(placer.layout, state.region, height),
     )
 }
 
-pub fn set_min_width(placer: BarePlacer, spot: Spot, width: f32) -> SpotAnswer
-    ensures { λ a. ⌜ ((pw ph ws hs : List Float) → placerFault (placerOf placer spot pw ph ws hs) ≡ 0 → answerOf placer spot a pw ph ws hs ≡ checkedSetMinWidth tick (placerOf placer spot pw ph ws hs) width) ⌝ }
+pub fn set_min_width(placer: PlacerSettings, state: PassState, width: f32) -> StateAnswer
+    ensures { λ a. ⌜ ((pw ph ws hs : List Float) → placerFault (placerOf placer state pw ph ws hs) ≡ 0 → answerOf placer state a pw ph ws hs ≡ checkedSetMinWidth tick (placerOf placer state pw ph ws hs) width) ⌝ }
 {
     settled(
         placer,
-        spot,
+        state,
         length_fault(width),
-        limits::min_width(placer.layout, spot.region, width),
+        limits::min_width(placer.layout, state.region, width),
     )
 }
 
-pub fn set_min_height(placer: BarePlacer, spot: Spot, height: f32) -> SpotAnswer
-    ensures { λ a. ⌜ ((pw ph ws hs : List Float) → placerFault (placerOf placer spot pw ph ws hs) ≡ 0 → answerOf placer spot a pw ph ws hs ≡ checkedSetMinHeight tick (placerOf placer spot pw ph ws hs) height) ⌝ }
+pub fn set_min_height(placer: PlacerSettings, state: PassState, height: f32) -> StateAnswer
+    ensures { λ a. ⌜ ((pw ph ws hs : List Float) → placerFault (placerOf placer state pw ph ws hs) ≡ 0 → answerOf placer state a pw ph ws hs ≡ checkedSetMinHeight tick (placerOf placer state pw ph ws hs) height) ⌝ }
 {
     settled(
         placer,
-        spot,
+        state,
         length_fault(height),
-        limits::min_height(placer.layout, spot.region, height),
+        limits::min_height(placer.layout, state.region, height),
     )
 }
 
 // In a grid.
-fn row_ended(placer: BarePlacer, spot: Spot, before: u8, heights: &[f32]) -> SpotAnswer
-    ensures { λ a. ⌜ ((pw ph ws : List Float) (sp : Spacing) → placer .«has_grid» ≡ true → placerFault (placerOf placer spot pw ph ws (now (heights .entry))) ≡ 0 → answerOf placer spot a pw ph ws (now (heights .entry)) ≡ changed (least (placerFault (placerOf placer spot pw ph ws (now (heights .entry))) ∷ before ∷ [])) (placerOf placer spot pw ph ws (now (heights .entry))) (endRow (placerOf placer spot pw ph ws (now (heights .entry))) sp)) ⌝ }
+fn row_ended(placer: PlacerSettings, state: PassState, before: u8, heights: &[f32]) -> StateAnswer
+    ensures { λ a. ⌜ ((pw ph ws : List Float) (sp : Spacing) → placer .«has_grid» ≡ true → placerFault (placerOf placer state pw ph ws (now (heights .entry))) ≡ 0 → answerOf placer state a pw ph ws (now (heights .entry)) ≡ changedPlacer (least (placerFault (placerOf placer state pw ph ws (now (heights .entry))) ∷ before ∷ [])) (placerOf placer state pw ph ws (now (heights .entry))) (endRow (placerOf placer state pw ph ws (now (heights .entry))) sp)) ⌝ }
 {
     let l = placer.layout;
     let d = l.main_dir;
-    let g = spot.region;
+    let g = state.region;
     let r = regions::with_cursor(
         g,
-        lent::ended_cursor(placer.grid, spot.grid, heights, g.cursor),
+        lent::ended_cursor(placer.grid, state.grid, heights, g.cursor),
     );
-    let row = lent::end_row(spot.grid);
-    let new = Spot {
+    let row = lent::end_row(state.grid);
+    let new = PassState {
         region: r,
         grid: row,
     };
     answer(or_else(before, outside_domain(region_fault(d, r))), new)
 }
 
-pub fn end_row(placer: BarePlacer, spot: Spot, heights: &[f32], item_spacing: Vec2) -> SpotAnswer
-    ensures { λ a. ⌜ ((pw ph ws : List Float) → placerFault (placerOf placer spot pw ph ws (now (heights .entry))) ≡ 0 → answerOf placer spot a pw ph ws (now (heights .entry)) ≡ checkedEndRow (placerOf placer spot pw ph ws (now (heights .entry))) «item_spacing») ⌝ }
+pub fn end_row(
+    placer: PlacerSettings,
+    state: PassState,
+    heights: &[f32],
+    item_spacing: Vec2,
+) -> StateAnswer
+    ensures { λ a. ⌜ ((pw ph ws : List Float) → placerFault (placerOf placer state pw ph ws (now (heights .entry))) ≡ 0 → answerOf placer state a pw ph ws (now (heights .entry)) ≡ checkedEndRow (placerOf placer state pw ph ws (now (heights .entry))) «item_spacing») ⌝ }
 {
-    let g = spot.grid;
+    let g = state.grid;
     let row = g.row;
     let before = lesser_number(
         pair_fault(item_spacing.x, item_spacing.y),
         row_fault(placer.has_grid, row),
     );
     if placer.has_grid {
-        return row_ended(placer, spot, before, heights);
+        return row_ended(placer, state, before, heights);
     }
     settled(
         placer,
-        spot,
+        state,
         before,
-        cursors::end_row(placer.layout, spot.region, item_spacing),
+        cursors::end_row(placer.layout, state.region, item_spacing),
     )
 }

@@ -20,7 +20,7 @@ ghost use mathlib.Core.List.{[], _∷_};
 ghost use lib.Dec.{leb};
 ghost use Rattle.emath.specs.Numbers as number;
 ghost use Rattle.emath.specs.Refusals.{when, least};
-ghost use Rattle.placer.specs.Refusals.{gridPart, placerFault, advanceFault, endRowFault, zeroPlacer, placerAnswer, changed};
+ghost use Rattle.placer.specs.Refusals.{gridPart, placerFault, advanceFault, endRowFault, zeroPlacer, placerAnswer, changedPlacer};
 
 // The grid's share of the state's number.
 fn grid_part(placer: Placer) -> u8
@@ -104,7 +104,7 @@ pub fn placer_answer(n: u8, given: Placer, new: Placer) -> PlacerAnswer
 
 // `before` is the arguments' number.
 pub fn changed_placer(before: u8, given: Placer, new: Placer) -> PlacerAnswer
-    ensures { λ a. ⌜ a ≡ changed before given new ⌝ }
+    ensures { λ a. ⌜ a ≡ changedPlacer before given new ⌝ }
 {
     placer_answer(
         or_else(before, outside_domain(placer_fault(new))),

@@ -1,8 +1,8 @@
 // Cores for a pass: a placer taken apart, and the calls of a W, with the grid's arrays lent beside it. Each holds for the placer that the
 // parts and the arrays make. A placer without fault is not checked again: a new one's number is that of what has changed.
-use crate::BarePlacer;
+use crate::PassState;
 use crate::Placer;
-use crate::Spot;
+use crate::PlacerSettings;
 use emath::Rect;
 use emath::Vec2;
 use emath::faults::extent_fault;
@@ -24,64 +24,64 @@ ghost use Rattle.emath.specs.Steps.{tick};
 ghost use Rattle.emath.specs.declared.Rect.{Rect as Frame};
 ghost use Rattle.emath.specs.declared.Vec2.{Vec2 as Spacing};
 ghost use Rattle.placer.specs.Rules.{nextSpace, justifyAndAlign, movedPast, advanceAfterRects};
-ghost use Rattle.placer.specs.Implementation.Lent.{placerOf, bareOf, spotOf, raisedPart, pastPart};
+ghost use Rattle.placer.specs.Implementation.Lent.{placerOf, settingsOf, stateOf, raisedPart, pastPart};
 
-pub fn bare(placer: Placer) -> BarePlacer
-    ensures { λ p. ⌜ p ≡ bareOf placer ⌝ }
+pub fn settings(placer: Placer) -> PlacerSettings
+    ensures { λ p. ⌜ p ≡ settingsOf placer ⌝ }
 {
     let layout = placer.layout;
-    BarePlacer {
+    PlacerSettings {
         has_grid: placer.has_grid,
-        grid: lent::bare(placer.grid),
+        grid: lent::settings(placer.grid),
         layout: layout,
     }
 }
 
-pub fn spot(placer: Placer) -> Spot
-    ensures { λ s. ⌜ s ≡ spotOf placer ⌝ }
+pub fn state(placer: Placer) -> PassState
+    ensures { λ s. ⌜ s ≡ stateOf placer ⌝ }
 {
     let region = placer.region;
-    Spot {
+    PassState {
         region: region,
-        grid: lent::spot(placer.grid),
+        grid: lent::state(placer.grid),
     }
 }
 
 // The arrays of `prev` beside those of this pass.
 pub fn whole(
-    placer: BarePlacer,
-    spot: Spot,
+    placer: PlacerSettings,
+    state: PassState,
     prev: Memory,
     widths: [f32; 32],
     heights: [f32; 128],
 ) -> Placer
-    ensures { λ p. ⌜ p ≡ placerOf placer spot (prev .«col_widths») (prev .«row_heights») widths heights ⌝ }
+    ensures { λ p. ⌜ p ≡ placerOf placer state (prev .«col_widths») (prev .«row_heights») widths heights ⌝ }
 {
     let layout = placer.layout;
-    let region = spot.region;
+    let region = state.region;
     Placer {
         has_grid: placer.has_grid,
-        grid: lent::whole(placer.grid, spot.grid, prev, widths, heights),
+        grid: lent::whole(placer.grid, state.grid, prev, widths, heights),
         layout: layout,
         region: region,
     }
 }
 
 pub fn next_space(
-    placer: BarePlacer,
-    spot: Spot,
+    placer: PlacerSettings,
+    state: PassState,
     prev_widths: &[f32],
     prev_heights: &[f32],
     child_size: Vec2,
     item_spacing: Vec2,
 ) -> Rect
-    ensures { λ r. ⌜ ((ws hs : List Float) → r ≡ nextSpace tick (placerOf placer spot (now («prev_widths» .entry)) (now («prev_heights» .entry)) ws hs) «child_size» «item_spacing») ⌝ }
+    ensures { λ r. ⌜ ((ws hs : List Float) → r ≡ nextSpace tick (placerOf placer state (now («prev_widths» .entry)) (now («prev_heights» .entry)) ws hs) «child_size» «item_spacing») ⌝ }
 {
-    let g = spot.region;
+    let g = state.region;
     if placer.has_grid {
         return lent::next_cell(
             placer.grid,
-            spot.grid,
+            state.grid,
             prev_widths,
             prev_heights,
             g.cursor,
@@ -91,8 +91,13 @@ pub fn next_space(
     frames::next_frame(placer.layout, g, child_size, item_spacing)
 }
 
-pub fn justify_and_align(placer: BarePlacer, spot: Spot, rect: Rect, child_size: Vec2) -> Rect
-    ensures { λ r. ⌜ ((pw ph ws hs : List Float) → r ≡ justifyAndAlign tick (placerOf placer spot pw ph ws hs) rect «child_size») ⌝ }
+pub fn justify_and_align(
+    placer: PlacerSettings,
+    state: PassState,
+    rect: Rect,
+    child_size: Vec2,
+) -> Rect
+    ensures { λ r. ⌜ ((pw ph ws hs : List Float) → r ≡ justifyAndAlign tick (placerOf placer state pw ph ws hs) rect «child_size») ⌝ }
 {
     if placer.has_grid {
         return grids::align_size_within_rect(child_size, rect);
@@ -101,18 +106,18 @@ pub fn justify_and_align(placer: BarePlacer, spot: Spot, rect: Rect, child_size:
 }
 
 fn cursor_past(
-    placer: BarePlacer,
-    spot: Spot,
+    placer: PlacerSettings,
+    state: PassState,
     prev_widths: &[f32],
     frame_rect: Rect,
     widget_rect: Rect,
     item_spacing: Vec2,
 ) -> Rect
-    ensures { λ r. ⌜ ((ph ws hs : List Float) → r ≡ movedPast (placerOf placer spot (now («prev_widths» .entry)) ph ws hs) «frame_rect» «widget_rect» «item_spacing» .region .cursor) ⌝ }
+    ensures { λ r. ⌜ ((ph ws hs : List Float) → r ≡ movedPast (placerOf placer state (now («prev_widths» .entry)) ph ws hs) «frame_rect» «widget_rect» «item_spacing» .region .cursor) ⌝ }
 {
-    let g = spot.region;
+    let g = state.region;
     if placer.has_grid {
-        return lent::advanced_cursor(placer.grid, spot.grid, prev_widths, g.cursor);
+        return lent::advanced_cursor(placer.grid, state.grid, prev_widths, g.cursor);
     }
     cursors::advance_after_rects(
         placer.layout,
@@ -125,37 +130,37 @@ fn cursor_past(
 
 // The region after `advance_after_rects`.
 pub fn region_past(
-    placer: BarePlacer,
-    spot: Spot,
+    placer: PlacerSettings,
+    state: PassState,
     prev_widths: &[f32],
     frame_rect: Rect,
     widget_rect: Rect,
     item_spacing: Vec2,
 ) -> Region
-    ensures { λ r. ⌜ ((ph ws hs : List Float) → r ≡ advanceAfterRects (placerOf placer spot (now («prev_widths» .entry)) ph ws hs) «frame_rect» «widget_rect» «item_spacing» .region) ⌝ }
+    ensures { λ r. ⌜ ((ph ws hs : List Float) → r ≡ advanceAfterRects (placerOf placer state (now («prev_widths» .entry)) ph ws hs) «frame_rect» «widget_rect» «item_spacing» .region) ⌝ }
 {
     let c = cursor_past(
         placer,
-        spot,
+        state,
         prev_widths,
         frame_rect,
         widget_rect,
         item_spacing,
     );
-    regions::expand_to_include_rect(regions::with_cursor(spot.region, c), frame_rect)
+    regions::expand_to_include_rect(regions::with_cursor(state.region, c), frame_rect)
 }
 
 fn raised_fault(
-    placer: BarePlacer,
-    spot: Spot,
+    placer: PlacerSettings,
+    state: PassState,
     widths: &[f32],
     heights: &[f32],
     widget_rect: Rect,
 ) -> u8
-    ensures { λ n. ⌜ ((pw ph : List Float) → n ≡ raisedPart (placerOf placer spot pw ph (now (widths .entry)) (now (heights .entry))) «widget_rect») ⌝ }
+    ensures { λ n. ⌜ ((pw ph : List Float) → n ≡ raisedPart (placerOf placer state pw ph (now (widths .entry)) (now (heights .entry))) «widget_rect») ⌝ }
 {
     if placer.has_grid {
-        let size = lent::noted_size(placer.grid, spot.grid, widths, heights, widget_rect);
+        let size = lent::noted_size(placer.grid, state.grid, widths, heights, widget_rect);
         return lesser_number(extent_fault(size.x), extent_fault(size.y));
     }
     0
@@ -164,44 +169,44 @@ fn raised_fault(
 // The number of the placer after `advance_after_rects`, which leaves this region: where the placer had none and there is room, the region's
 // or that of what the grid is to remember.
 pub fn past_fault(
-    placer: BarePlacer,
-    spot: Spot,
+    placer: PlacerSettings,
+    state: PassState,
     widths: &[f32],
     heights: &[f32],
     region: Region,
     widget_rect: Rect,
 ) -> u8
-    ensures { λ n. ⌜ ((pw ph : List Float) → n ≡ pastPart (placerOf placer spot pw ph (now (widths .entry)) (now (heights .entry))) region «widget_rect») ⌝ }
+    ensures { λ n. ⌜ ((pw ph : List Float) → n ≡ pastPart (placerOf placer state pw ph (now (widths .entry)) (now (heights .entry))) region «widget_rect») ⌝ }
 {
     let l = placer.layout;
     let d = l.main_dir;
     lesser_number(
         region_fault(d, region),
-        raised_fault(placer, spot, widths, heights, widget_rect),
+        raised_fault(placer, state, widths, heights, widget_rect),
     )
 }
 
 // The rest of `advance_after_rects`.
 pub fn advance(
-    placer: BarePlacer,
-    spot: Spot,
+    placer: PlacerSettings,
+    state: PassState,
     widths: &mut [f32],
     heights: &mut [f32],
     region: Region,
     widget_rect: Rect,
-) -> Spot
+) -> PassState
     requires { ⌜ (length (now widths) ≡ 32) × (length (now heights) ≡ 128) ⌝ }
-    ensures { λ p. ⌜ ((pw ph : List Float) (f : Frame) (sp : Spacing) → region ≡ advanceAfterRects (placerOf placer spot pw ph (now (widths .entry)) (now (heights .entry))) f «widget_rect» sp .region → placerOf placer p pw ph (now (widths .exit)) (now (heights .exit)) ≡ advanceAfterRects (placerOf placer spot pw ph (now (widths .entry)) (now (heights .entry))) f «widget_rect» sp) ⌝ }
+    ensures { λ p. ⌜ ((pw ph : List Float) (f : Frame) (sp : Spacing) → region ≡ advanceAfterRects (placerOf placer state pw ph (now (widths .entry)) (now (heights .entry))) f «widget_rect» sp .region → placerOf placer p pw ph (now (widths .exit)) (now (heights .exit)) ≡ advanceAfterRects (placerOf placer state pw ph (now (widths .entry)) (now (heights .entry))) f «widget_rect» sp) ⌝ }
 {
     if placer.has_grid {
-        let g = lent::advance(placer.grid, spot.grid, widths, heights, widget_rect);
-        return Spot {
+        let g = lent::advance(placer.grid, state.grid, widths, heights, widget_rect);
+        return PassState {
             region: region,
             grid: g,
         };
     }
-    let g = spot.grid;
-    Spot {
+    let g = state.grid;
+    PassState {
         region: region,
         grid: g,
     }

@@ -1,9 +1,9 @@
 // egui's placer.rs (RULES 4): a layout or a grid, with the region that it fills.
 // The unchecked rules are total functions, in `rules` and `limits`; `operations` holds the public calls, which refuse by RULES 8.17 with
 // the numbers of `faults`.
-use grid::BareGrid;
 use grid::GridLayout;
-use grid::GridSpot;
+use grid::GridSettings;
+use grid::GridState;
 use layout::Layout;
 use region::Region;
 
@@ -30,20 +30,20 @@ pub struct PlacerAnswer {
 }
 
 // What a pass leaves as it is of a placer, without the arrays of its grid's memories, which are lent beside it.
-pub struct BarePlacer {
+pub struct PlacerSettings {
     pub has_grid: bool,
-    pub grid: BareGrid,
+    pub grid: GridSettings,
     pub layout: Layout,
 }
 
 // What a pass carries from record to record.
-pub struct Spot {
+pub struct PassState {
     pub region: Region,
-    pub grid: GridSpot,
+    pub grid: GridState,
 }
 
 // A call in a pass: what it carries on, or the number by which the call is refused.
-pub enum SpotAnswer {
-    Changed(Spot),
+pub enum StateAnswer {
+    Changed(PassState),
     Refused(u8),
 }

@@ -9,8 +9,8 @@ use Rattle.sheet.specs.Pass.{Sheet}
 use Rattle.sheet.specs.Passes.{passes}
 use Rattle.pass_laws.specs.WholeSheets.{WholeSheet}
 use Rattle.price_clause.specs.PriceClause.{PriceClause, OfText}
-use Rattle.price_clause.proofs.Strips.{strips-grow}
-use Rattle.price_clause.proofs.Grids.{grids-grow}
+use Rattle.price_clause.proofs.OfStrips.Strips.{strips-grow}
+use Rattle.price_clause.proofs.OfGrids.Grids.{grids-grow}
 use Rattle.pass_laws.proofs.ColumnLaw.{column-law}
 use Rattle.pass_laws.proofs.FurtherPasses.{further-passes}
 use Rattle.pass_laws.proofs.WholeTops.{always-on-steps, without-K}

@@ -27,8 +27,8 @@ answered text = settled text (replicate (8 * widgets (records text)) (pos 0))
 abbrev pub counted : List Float → List ℤ
 counted xs = pos (length xs) ∷ map (ticks tick) xs
 
-abbrev pub told : LaidOut → List ℤ
-told l =
+abbrev pub reported : LaidOut → List ℤ
+reported l =
     pos (l .outcome .number) ∷ pos (l .outcome .at)
     ∷ (edges (inTicks tick (l .outcome .plate)) ++ (l .slice ++ (counted (widths (l .outcome .memory)) ++ counted (heights (l .outcome .memory)))))
 
@@ -76,7 +76,7 @@ abbrev pub without-grid : List Ticks → Ticks → List ℤ
 without-grid frames plate = pos 0 ∷ pos 0 ∷ (edges plate ++ (twiceEach frames ++ (pos 0 ∷ pos 0 ∷ [])))
 
 abbrev pub answer-to : List ℕ → List ℤ
-answer-to text = told (answered text)
+answer-to text = reported (answered text)
 
 -- RULES 9.1: a refusal's number and record
 abbrev pub refusal-of : List ℕ → List ℤ

@@ -1,7 +1,7 @@
 -- The laws of records. Layers above cite them as Rattle.records.proofs.NAME.
-pub mod Lengths
+mod Lengths
 pub mod Places
-pub mod HeadingFaults
+mod HeadingFaults
 pub mod Reached
 pub mod Prefixes
 pub mod Checks

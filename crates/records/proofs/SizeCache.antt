@@ -17,7 +17,7 @@ use Rattle.records.specs.declared.Record.{Record}
 use Rattle.records.specs.declared.Record.the-variants.{Step as Steps, Wrong}
 use Rattle.records.specs.declared.Checked.the-variants.{Accepted}
 use Rattle.records.specs.Parts.{letter, ends, lengthIn, isLength, lengthValue}
-use Rattle.records.specs.Records.{pick, stepRecord, widgetRecord, recordOf, recordAt, size, rest, nextAt}
+use Rattle.records.specs.Records.{stepRecord, widgetRecord, recordOf, recordAt, size, rest, nextAt}
 use Rattle.text.specs.Letters as letters
 use Rattle.records.specs.Headings.{headingIn, headingFault}
 use Rattle.records.specs.Sheets.{recordsFrom, stepsLeft, records, wrongFrom, checked}
@@ -83,7 +83,7 @@ is-cached : (u : List ℕ) (ss : List Float) (n : ℕ) → isStep (recordOf u) �
 unfolding widgetRecord stepRecord
 is-cached u ss n p l h = go (isLength (lengthIn u 0) && isLength (lengthIn u 1) && ends u 2) (lengthValue (lengthIn u 0)) (lengthValue (lengthIn u 1)) (is-widget u h)
   where
-    go : (b : Bool) (x y : Float) → recordOf u ≡ pick b (Steps (Widget x y)) Wrong
+    go : (b : Bool) (x y : Float) → recordOf u ≡ cond b (Steps (Widget x y)) Wrong
         → recordOf u ≡ Steps (Widget (getD (stored ss n (recordOf u)) n nan) (getD (stored ss n (recordOf u)) (513 + n) nan))
     go true x y e = rw e (stands ss n x y l)
     go false x y e = absurd (no-step (ap (λ (r : Record). isStep r) (sym e) ∙ p))

@@ -1,7 +1,7 @@
 -- Document 01, "The sheet": what each letter's record says.
 use Prim.Native.Nat.{ℕ, _+_, _*_, min}
 use mathlib.Core.List.{List}
-use mathlib.Core.Bool.{Bool, true, false, _&&_}
+use mathlib.Core.Bool.{Bool, true, false, _&&_, cond}
 use lib.IntN.{pos}
 use lib.ListN.{length, drop}
 use lib.Dec.{eqb}
@@ -23,10 +23,6 @@ use Rattle.records.specs.declared.Step.the-variants.{Widget, Space, RowH
 use Rattle.records.specs.declared.Record.{Record}
 use Rattle.records.specs.declared.Record.the-variants.{Step as Steps, Wrong}
 use Rattle.records.specs.Parts.{letter, ends, lengthIn, isLength, lengthValue, isMaximum, maximumValue, countIn, isCount, countValue}
-
-abbrev pub pick : Bool → Record → Record → Record
-pick true a b = a
-pick false a b = b
 
 -- two lengths, fields i and i + 1
 unfoldable pub pairFits : List ℕ → ℕ → Bool
@@ -97,7 +93,7 @@ gridFits s = pairFits s 0 && maximaFit s && isColumns (countIn s 4 32) && isCoun
 
 -- ---- the steps
 unfoldable pub stepRecord : List ℕ → ℕ → Bool → Step → Record
-stepRecord s n fits step = pick (fits && ends s n) (Steps step) Wrong
+stepRecord s n fits step = cond (fits && ends s n) (Steps step) Wrong
 
 -- "W width height"
 unfoldable pub widgetRecord : List ℕ → Record
@@ -111,19 +107,19 @@ single s step = stepRecord s 1 (isLength (lengthIn s 0)) (step (lengthValue (len
 -- "S, R, L, K, N, T take one field"
 unfoldable pub singleRecord : List ℕ → ℕ → Record
 singleRecord s b =
-    pick (eqb b letters.S) (single s (λ x. Space x))
-    (pick (eqb b letters.R) (single s (λ x. RowHeight x))
-    (pick (eqb b letters.L) (single s (λ x. MaxWidth x))
-    (pick (eqb b letters.K) (single s (λ x. MaxHeight x))
-    (pick (eqb b letters.N) (single s (λ x. MinWidth x))
-    (pick (eqb b letters.T) (single s (λ x. MinHeight x))
+    cond (eqb b letters.S) (single s (λ x. Space x))
+    (cond (eqb b letters.R) (single s (λ x. RowHeight x))
+    (cond (eqb b letters.L) (single s (λ x. MaxWidth x))
+    (cond (eqb b letters.K) (single s (λ x. MaxHeight x))
+    (cond (eqb b letters.N) (single s (λ x. MinWidth x))
+    (cond (eqb b letters.T) (single s (λ x. MinHeight x))
     Wrong)))))
 
 -- the record at the front of a text, where a step may stand: W, E, or a letter of one field
 unfoldable pub recordOf : List ℕ → Record
 recordOf s =
-    pick (eqb (letter s) letters.W) (widgetRecord s)
-    (pick (eqb (letter s) letters.E) (stepRecord s 0 true RowEnd)
+    cond (eqb (letter s) letters.W) (widgetRecord s)
+    (cond (eqb (letter s) letters.E) (stepRecord s 0 true RowEnd)
     (singleRecord s (letter s)))
 
 unfoldable pub recordAt : List ℕ → ℕ → Record

@@ -25,7 +25,7 @@ pub fn has_grid(text: &[u8]) -> bool
 fn no_options() -> GridOptions
     ensures { λ g. ⌜ g ≡ noOptions ⌝ }
 {
-    let none = Vec2 { x: 0.0, y: 0.0 };
+    let none = Vec2::ZERO;
     GridOptions {
         min_cell_size: none,
         max_cell_size: none,

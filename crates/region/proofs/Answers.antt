@@ -9,7 +9,7 @@ use lib.Dec.{T, eqb, eqb→eq}
 use Rattle.emath.specs.Refusals.{outside, edgesFault, rectFault, frameFault, least}
 use Rattle.emath.proofs.Refusals.{or-none, outside-none, lesser-none}
 use Rattle.region.specs.Refusals.{cursorFault, regionFault, rectAnswer, posAnswer, sizeAnswer, regionAnswer, cursorAnswer, rectNumber, rectValue, posNumber, posValue, sizeNumber, sizeValue, rectOrZero, posOrZero, sizeOrZero}
-use Rattle.region.specs.Operations.{placedNumber, framedNumber, moved}
+use Rattle.region.specs.Operations.{placedNumber, framedNumber, changedRegion}
 use Rattle.emath.specs.declared.Rect.{Rect}
 use Rattle.emath.specs.declared.Vec2.{Vec2}
 use Rattle.emath.specs.declared.Pos2.{Pos2}
@@ -81,9 +81,9 @@ pub framed-accepted : (n : ℕ) (r : Rect) → framedNumber n r ≡ 0 → (n ≡
 unfolding framedNumber
 framed-accepted n r h = or-none n (frameFault r) h
 
-pub moved-accepted : (d : Direction) (n : ℕ) (given new : Region) → moved d n given new .number ≡ 0 → (n ≡ 0) × (regionFault d new ≡ 0) × (moved d n given new .region ≡ new)
-unfolding moved regionAnswer
-moved-accepted d n given new h =
+pub changed-accepted : (d : Direction) (n : ℕ) (given new : Region) → changedRegion d n given new .number ≡ 0 → (n ≡ 0) × (regionFault d new ≡ 0) × (changedRegion d n given new .region ≡ new)
+unfolding changedRegion regionAnswer
+changed-accepted d n given new h =
     let p = or-none n (outside (regionFault d new)) h in
     (p .0, outside-none (regionFault d new) (p .1), rw h)
 

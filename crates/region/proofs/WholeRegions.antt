@@ -12,7 +12,7 @@ use Rattle.emath.proofs.Refusals.{edges-within, rect-none}
 use Rattle.emath.proofs.Edges.{round-edge}
 use Rattle.emath.proofs.Sums.{OnGrid, edge-grid, grid-edge, zero-grid, grid-min, grid-max, grid-not-inf, max-inf, min-inf}
 use Rattle.region.specs.Regions.{infinity, expandToIncludeRect, expandToIncludeX, expandToIncludeY}
-use Rattle.region.specs.Refusals.{excused, closed, cursorFault, regionFault}
+use Rattle.region.specs.Refusals.{zeroIfOpen, closed, cursorFault, regionFault}
 use Rattle.region.specs.Steps.{WholeRect, WholeCursor, WholeRegion}
 use Rattle.region.proofs.Answers.{region-none}
 use Rattle.emath.specs.declared.Rect.{Rect}
@@ -60,41 +60,41 @@ module _ (k : ℕ) (l : k ≤ 7) where
       }
 
   -- ---- the open edge: at its infinity, or on the grid
-  open-split : (t : Bool) (v : Float) → OnGrid k (excused (inf t) v) → (v ≡ inf t) ⊎ OnGrid k v
-  unfolding excused
+  open-split : (t : Bool) (v : Float) → OnGrid k (zeroIfOpen (inf t) v) → (v ≡ inf t) ⊎ OnGrid k v
+  unfolding zeroIfOpen
   open-split t v g = go (eq v (inf t)) (eq-inf-is t v) g
     where
       go : (b : Bool) → (b ≡ true → v ≡ inf t) → OnGrid k (cond b zeroF v) → (v ≡ inf t) ⊎ OnGrid k v
       go true f g = inl (f refl)
       go false f g = inr g
 
-  grid-open : (t : Bool) {v : Float} → OnGrid k v → OnGrid k (excused (inf t) v)
-  unfolding excused
+  grid-open : (t : Bool) {v : Float} → OnGrid k v → OnGrid k (zeroIfOpen (inf t) v)
+  unfolding zeroIfOpen
   grid-open t g = rw (grid-not-inf k l g t) g
 
-  inf-open : (t : Bool) → OnGrid k (excused (inf t) (inf t))
-  unfolding excused eq
+  inf-open : (t : Bool) → OnGrid k (zeroIfOpen (inf t) (inf t))
+  unfolding zeroIfOpen eq
   inf-open true = zero-grid k l
   inf-open false = zero-grid k l
 
-  pub open-max : (v x : Float) → OnGrid k (excused infinity v) → OnGrid k x → OnGrid k (excused infinity (maxF v x))
+  pub open-max : (v x : Float) → OnGrid k (zeroIfOpen infinity v) → OnGrid k x → OnGrid k (zeroIfOpen infinity (maxF v x))
   open-max v x h g = go (open-split false v h)
     where
-      go : (v ≡ infinity) ⊎ OnGrid k v → OnGrid k (excused infinity (maxF v x))
+      go : (v ≡ infinity) ⊎ OnGrid k v → OnGrid k (zeroIfOpen infinity (maxF v x))
       go (inl e) = rw (e, max-inf k l g) (inf-open false)
       go (inr f) = grid-open false (grid-max k l f g)
 
-  pub open-min : (v x : Float) → OnGrid k (excused (neg infinity) v) → OnGrid k x → OnGrid k (excused (neg infinity) (minF v x))
+  pub open-min : (v x : Float) → OnGrid k (zeroIfOpen (neg infinity) v) → OnGrid k x → OnGrid k (zeroIfOpen (neg infinity) (minF v x))
   open-min v x h g = rw neg-infinity (go (open-split true v (rw neg-infinity at h)))
     where
-      go : (v ≡ inf true) ⊎ OnGrid k v → OnGrid k (excused (inf true) (minF v x))
+      go : (v ≡ inf true) ⊎ OnGrid k v → OnGrid k (zeroIfOpen (inf true) (minF v x))
       go (inl e) = rw (e, min-inf k l g) (inf-open true)
       go (inr f) = grid-open true (grid-min k l f g)
 
-  pub far-right : OnGrid k (excused infinity infinity)
+  pub far-right : OnGrid k (zeroIfOpen infinity infinity)
   far-right = inf-open false
 
-  pub far-left : OnGrid k (excused (neg infinity) (neg infinity))
+  pub far-left : OnGrid k (zeroIfOpen (neg infinity) (neg infinity))
   far-left = rw neg-infinity (inf-open true)
 
   -- ---- between whole steps and the grid

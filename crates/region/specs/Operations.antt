@@ -20,15 +20,15 @@ unfoldable pub framedNumber : ℕ → Rect → ℕ
 framedNumber before r = orElse before (frameFault r)
 
 -- RULES 8.13: a new region, or the given one where a number applies
-unfoldable pub moved : Direction → ℕ → Region → Region → RegionAnswer
-moved d before given new = regionAnswer (orElse before (outside (regionFault d new))) given new
+unfoldable pub changedRegion : Direction → ℕ → Region → Region → RegionAnswer
+changedRegion d before given new = regionAnswer (orElse before (outside (regionFault d new))) given new
 
 -- ---- RULES 8.15, Region: the direction says which edge of its cursor is open
 unfoldable pub checkedExpandToIncludeRect : Direction → Region → Rect → RegionAnswer
-checkedExpandToIncludeRect d g r = moved d (least (regionFault d g ∷ rectFault r ∷ [])) g (expandToIncludeRect g r)
+checkedExpandToIncludeRect d g r = changedRegion d (least (regionFault d g ∷ rectFault r ∷ [])) g (expandToIncludeRect g r)
 
 unfoldable pub checkedExpandToIncludeX : Direction → Region → Float → RegionAnswer
-checkedExpandToIncludeX d g x = moved d (least (regionFault d g ∷ lengthFault x ∷ [])) g (expandToIncludeX g x)
+checkedExpandToIncludeX d g x = changedRegion d (least (regionFault d g ∷ lengthFault x ∷ [])) g (expandToIncludeX g x)
 
 unfoldable pub checkedExpandToIncludeY : Direction → Region → Float → RegionAnswer
-checkedExpandToIncludeY d g y = moved d (least (regionFault d g ∷ lengthFault y ∷ [])) g (expandToIncludeY g y)
+checkedExpandToIncludeY d g y = changedRegion d (least (regionFault d g ∷ lengthFault y ∷ [])) g (expandToIncludeY g y)

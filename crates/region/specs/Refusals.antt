@@ -24,14 +24,14 @@ use Rattle.region.specs.declared.CursorAnswer.{CursorAnswer}
 
 -- ---- the faults of a state
 -- RULES 5.3: an open edge at its outward infinity counts as 0
-unfoldable pub excused : Float → Float → Float
-excused outward v = cond (eq v outward) zeroF v
+unfoldable pub zeroIfOpen : Float → Float → Float
+zeroIfOpen outward v = cond (eq v outward) zeroF v
 
 unfoldable pub closed : Direction → Rect → Rect
-closed LeftToRight c = setRight c (excused infinity (c .right))
-closed RightToLeft c = setLeft c (excused (neg infinity) (c .left))
-closed TopDown c = setBottom c (excused infinity (c .bottom))
-closed BottomUp c = setTop c (excused (neg infinity) (c .top))
+closed LeftToRight c = setRight c (zeroIfOpen infinity (c .right))
+closed RightToLeft c = setLeft c (zeroIfOpen (neg infinity) (c .left))
+closed TopDown c = setBottom c (zeroIfOpen infinity (c .bottom))
+closed BottomUp c = setTop c (zeroIfOpen (neg infinity) (c .top))
 
 -- RULES 8.5: of a cursor its edges count, and it may be inside out; a region has the faults of all three rectangles
 unfoldable pub cursorFault : Direction → Rect → ℕ

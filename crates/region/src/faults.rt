@@ -17,11 +17,11 @@ use emath::faults::outside_domain;
 use emath::faults::rect_fault;
 use emath::num::infinity;
 ghost use mathlib.Core.Path.{_≡_};
-ghost use Rattle.region.specs.Refusals.{excused, closed, cursorFault, regionFault, rectAnswer, posAnswer, sizeAnswer, regionAnswer, cursorAnswer, zeroRegion};
-ghost use Rattle.region.specs.Operations.{placedNumber, framedNumber, moved};
+ghost use Rattle.region.specs.Refusals.{zeroIfOpen, closed, cursorFault, regionFault, rectAnswer, posAnswer, sizeAnswer, regionAnswer, cursorAnswer, zeroRegion};
+ghost use Rattle.region.specs.Operations.{placedNumber, framedNumber, changedRegion};
 
-pub fn excused_edge(outward: f32, edge: f32) -> f32
-    ensures { λ r. ⌜ r ≡ excused outward edge ⌝ }
+pub fn zero_if_open(outward: f32, edge: f32) -> f32
+    ensures { λ r. ⌜ r ≡ zeroIfOpen outward edge ⌝ }
 {
     if edge == outward { 0.0 } else { edge }
 }
@@ -33,16 +33,16 @@ fn closed_cursor(main_dir: Direction, cursor: Rect) -> Rect
     let far = infinity();
     match main_dir {
         Direction::LeftToRight => {
-            c.right = excused_edge(far, c.right);
+            c.right = zero_if_open(far, c.right);
         }
         Direction::RightToLeft => {
-            c.left = excused_edge(-far, c.left);
+            c.left = zero_if_open(-far, c.left);
         }
         Direction::TopDown => {
-            c.bottom = excused_edge(far, c.bottom);
+            c.bottom = zero_if_open(far, c.bottom);
         }
         Direction::BottomUp => {
-            c.top = excused_edge(-far, c.top);
+            c.top = zero_if_open(-far, c.top);
         }
     }
     c
@@ -141,8 +141,8 @@ pub fn framed_rect(before: u8, r: Rect) -> RectAnswer
     rect_answer(or_else(before, frame_fault(r)), r)
 }
 
-pub fn moved_region(main_dir: Direction, before: u8, given: Region, new: Region) -> RegionAnswer
-    ensures { λ a. ⌜ a ≡ moved «main_dir» before given new ⌝ }
+pub fn changed_region(main_dir: Direction, before: u8, given: Region, new: Region) -> RegionAnswer
+    ensures { λ a. ⌜ a ≡ changedRegion «main_dir» before given new ⌝ }
 {
     let after = outside_domain(region_fault(main_dir, new));
     region_answer(or_else(before, after), given, new)

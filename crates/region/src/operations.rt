@@ -2,7 +2,7 @@
 use crate::Direction;
 use crate::Region;
 use crate::RegionAnswer;
-use crate::faults::moved_region;
+use crate::faults::changed_region;
 use crate::faults::region_fault;
 use crate::regions;
 use emath::Rect;
@@ -18,7 +18,7 @@ impl Region {
     {
         let new = regions::expand_to_include_rect(self, rect);
         let before = lesser_number(region_fault(main_dir, self), rect_fault(rect));
-        moved_region(main_dir, before, self, new)
+        changed_region(main_dir, before, self, new)
     }
 
     pub fn expand_to_include_x(self, main_dir: Direction, x: f32) -> RegionAnswer
@@ -26,7 +26,7 @@ impl Region {
     {
         let new = regions::expand_to_include_x(self, x);
         let before = lesser_number(region_fault(main_dir, self), length_fault(x));
-        moved_region(main_dir, before, self, new)
+        changed_region(main_dir, before, self, new)
     }
 
     pub fn expand_to_include_y(self, main_dir: Direction, y: f32) -> RegionAnswer
@@ -34,6 +34,6 @@ impl Region {
     {
         let new = regions::expand_to_include_y(self, y);
         let before = lesser_number(region_fault(main_dir, self), length_fault(y));
-        moved_region(main_dir, before, self, new)
+        changed_region(main_dir, before, self, new)
     }
 }

@@ -4,12 +4,12 @@ pub mod Runs
 pub mod Passes
 pub mod PlacedCells
 -- The call that runs.
-pub mod Stepping
+mod Stepping
 pub mod Slices
 pub mod Ticking
-pub mod Walks
+mod Walks
 pub mod Walking
-pub mod WalkedRuns
+mod WalkedRuns
 pub mod Returned
-pub mod WalkedPasses
+mod WalkedPasses
 pub mod Shown

@@ -17,10 +17,10 @@ use Rattle.grid.specs.declared.GridLayout.{GridLayout}
 use Rattle.placer.specs.Rules.{newPlacer, setGrid, saveGrid}
 use Rattle.placer.specs.Refusals.{placerFault, zeroPlacer}
 use Rattle.placer.specs.Operations.{checkedNew, checkedSetGrid}
-use Rattle.placer.proofs.Accepted.{changed-accepted}
+use Rattle.placer.proofs.Answers.{changed-accepted}
 use Rattle.placer.specs.declared.Placer.{Placer}
 use Rattle.records.specs.declared.Heading.{Heading}
-use Rattle.sheet.specs.Pass.{Sheet, Ran, Outcome, called, followed, runFrom, headed, gridOf, gridded, plateOf, remembered, refusedAt, outcomeOf, begun, ranWith, pass}
+use Rattle.sheet.specs.Pass.{Sheet, Ran, Outcome, called, followed, runFrom, headed, gridOf, gridSet, plateOf, remembered, refusedAt, outcomeOf, begun, ranWith, pass}
 use Rattle.sheet.proofs.Runs.{some, going}
 
 -- ---- an outcome that is not refused
@@ -84,9 +84,9 @@ module _ (h : Heading) (known : Bool) (m : Memory) (sizing : Bool) (p : Placer) 
   unfolding gridOf checkedNewGrid
   grid-of e = grid-accepted _ _ _ e
 
-  pub gridded-is : gridded h known m sizing p .number ≡ 0 → (gridded h known m sizing p .placer ≡ setGrid p newOne) × (placerFault (setGrid p newOne) ≡ 0)
-  unfolding gridded checkedSetGrid
-  gridded-is e =
+  pub grid-set-is : gridSet h known m sizing p .number ≡ 0 → (gridSet h known m sizing p .placer ≡ setGrid p newOne) × (placerFault (setGrid p newOne) ≡ 0)
+  unfolding gridSet checkedSetGrid
+  grid-set-is e =
       let a = or-none (gridOf h known m sizing p .number) _ e in
       let g = grid-of (a .0) in
       let c = changed-accepted _ p (setGrid p (gridOf h known m sizing p .grid)) (a .1) in
@@ -104,7 +104,7 @@ module _ (k : ℕ) (s : Sheet) (known : Bool) (m : Memory) (sizing : Bool) where
   pub record GridPass : Type 0 where
     pub rect : rectFault (s .heading .«max_rect») ≡ 0
     pub begin : placerFault start ≡ 0
-    pub is : gridded (s .heading) known m sizing (headed k (s .heading) .placer) .placer ≡ gridStart
+    pub is : gridSet (s .heading) known m sizing (headed k (s .heading) .placer) .placer ≡ gridStart
     pub fault : placerFault gridStart ≡ 0
     pub run : runFrom k (s .heading .spacing) (s .heading .records + 1) gridStart (s .steps) .number ≡ 0
     pub cells : pass k s known m sizing .cells ≡ runFrom k (s .heading .spacing) (s .heading .records + 1) gridStart (s .steps) .cells
@@ -115,13 +115,13 @@ module _ (k : ℕ) (s : Sheet) (known : Bool) (m : Memory) (sizing : Bool) where
   last p = runFrom k (s .heading .spacing) (s .heading .records + 1) p (s .steps)
 
   with-grid : s .heading .«has_grid» ≡ true → (p : Placer)
-      → ranWith k s known m sizing p ≡ followed (s .heading .records) (called (gridded (s .heading) known m sizing p)) (last (gridded (s .heading) known m sizing p .placer))
+      → ranWith k s known m sizing p ≡ followed (s .heading .records) (called (gridSet (s .heading) known m sizing p)) (last (gridSet (s .heading) known m sizing p .placer))
   unfolding ranWith begun
   with-grid g p = rw g
 
   -- the records from G on, after a placer p
   record FromGrid (p : Placer) (r : Ran) : Type 0 where
-    pub is : gridded (s .heading) known m sizing p .placer ≡ setGrid p (newOne (s .heading) known m sizing p)
+    pub is : gridSet (s .heading) known m sizing p .placer ≡ setGrid p (newOne (s .heading) known m sizing p)
     pub fault : placerFault (setGrid p (newOne (s .heading) known m sizing p)) ≡ 0
     pub run : last (setGrid p (newOne (s .heading) known m sizing p)) .number ≡ 0
     pub cells : r .cells ≡ last (setGrid p (newOne (s .heading) known m sizing p)) .cells
@@ -130,8 +130,8 @@ module _ (k : ℕ) (s : Sheet) (known : Bool) (m : Memory) (sizing : Bool) where
   from-grid : s .heading .«has_grid» ≡ true → (p : Placer) → ranWith k s known m sizing p .number ≡ 0 → FromGrid p (ranWith k s known m sizing p)
   from-grid g p h =
       let e = with-grid g p in
-      let a = going (s .heading .records) (called (gridded (s .heading) known m sizing p)) (last (gridded (s .heading) known m sizing p .placer)) (ap (λ (r : Ran). r .number) (sym e) ∙ h) in
-      let b = gridded-is (s .heading) known m sizing p (a .this) in
+      let a = going (s .heading .records) (called (gridSet (s .heading) known m sizing p)) (last (gridSet (s .heading) known m sizing p .placer)) (ap (λ (r : Ran). r .number) (sym e) ∙ h) in
+      let b = grid-set-is (s .heading) known m sizing p (a .this) in
       record {
         is = b .0;
         fault = b .1;
@@ -183,7 +183,7 @@ module _ (k : ℕ) (s : Sheet) (known : Bool) (m : Memory) (sizing : Bool) where
       record {
         rect = b .rect;
         begin = b .begin;
-        is = ap (λ (q : Placer). gridded (s .heading) known m sizing q .placer) (b .placed) ∙ c .is;
+        is = ap (λ (q : Placer). gridSet (s .heading) known m sizing q .placer) (b .placed) ∙ c .is;
         fault = c .fault;
         run = c .run;
         cells = a .cells ∙ b .cells ∙ c .cells;

@@ -1,7 +1,7 @@
 -- An accepted run: each of its records is accepted, and so is the rest, from the placer that the record leaves. Assumes nothing.
 use Prim.Native.Nat.{ℕ, suc, _+_}
 use mathlib.Core.Path.{_≡_, refl, sym, _∙_}
-use mathlib.Core.Bool.{Bool, true, false}
+use mathlib.Core.Bool.{Bool, true, false, true≢false}
 use mathlib.Core.List.{List, _∷_, _++_}
 use native.Mathlib.Omega.{arith}
 use lib.Dec.{eqb}
@@ -17,9 +17,6 @@ use Rattle.sheet.specs.Pass.{Cell, Stepped, Ran, stepped, followed, runF
 pub some : (n : ℕ) → eqb (suc n) 0 ≡ false
 some n = ne-eqb (suc n) 0 (λ (e : suc n ≡ 0). absurd (omega arith))
 
-no-such : {A : Type 0} → false ≡ true → A
-no-such e = let o : _≡_ {A = ℕ} 0 1 = cc in absurd (omega arith)
-
 -- ---- one record and the rest
 pub record Going (a : Stepped) (later whole : Ran) : Type 0 where
   pub this : a .number ≡ 0
@@ -33,7 +30,7 @@ going n a later h = go (eqb (a .number) 0) refl
   where
     go : (b : Bool) → eqb (a .number) 0 ≡ b → Going a later (followed n a later)
     go true e = record { this = eqb-true (a .number) 0 e; rest = rw e at h; cells = rw e; placer = rw e }
-    go false e = let z : a .number ≡ 0 = rw e at h in no-such (sym e ∙ eq-eqb (a .number) 0 z)
+    go false e = let z : a .number ≡ 0 = rw e at h in absurd (true≢false (sym (sym e ∙ eq-eqb (a .number) 0 z)))
 
 pub run-goes : (k : ℕ) (sp : Vec2) (n : ℕ) (p : Placer) (st : Step) (rest : List Step) → runFrom k sp n p (st ∷ rest) .number ≡ 0
     → Going (stepped k sp p st) (runFrom k sp (n + 1) (stepped k sp p st .placer) rest) (runFrom k sp n p (st ∷ rest))

@@ -19,7 +19,7 @@ use Rattle.records.specs.declared.Step.{Step}
 use Rattle.records.proofs.Checks.{some-number}
 use Rattle.sheet.specs.declared.Laid.the-variants.{Accepted, Refused}
 use Rattle.sheet.specs.declared.Passed.{Passed}
-use Rattle.sheet.specs.Pass.{Sheet, Cell, Ran, called, stepped, followed, runFrom, headed, gridded, begun, ranWith, pass}
+use Rattle.sheet.specs.Pass.{Sheet, Cell, Ran, called, stepped, followed, runFrom, headed, gridSet, begun, ranWith, pass}
 use Rattle.sheet.specs.Texts.{sheetIn}
 use Rattle.sheet.specs.Slices.{Called, controls, written, laidOf, afterCheck, laid}
 use Rattle.sheet.proofs.Runs.{going, run-goes}
@@ -41,13 +41,13 @@ unfolding ranWith begun
 ran-all k s known m sizing p h = go (s .heading .«has_grid») h
   where
     later : Ran
-    later = runFrom k (s .heading .spacing) (s .heading .records + 1) (gridded (s .heading) known m sizing p .placer) (s .steps)
+    later = runFrom k (s .heading .spacing) (s .heading .records + 1) (gridSet (s .heading) known m sizing p .placer) (s .steps)
 
-    go : (b : Bool) → cond b (followed (s .heading .records) (called (gridded (s .heading) known m sizing p)) later) (runFrom k (s .heading .spacing) (s .heading .records + 1) p (s .steps)) .number ≡ 0
-        → controls (s .steps) ≤ length (cond b (followed (s .heading .records) (called (gridded (s .heading) known m sizing p)) later) (runFrom k (s .heading .spacing) (s .heading .records + 1) p (s .steps)) .cells)
+    go : (b : Bool) → cond b (followed (s .heading .records) (called (gridSet (s .heading) known m sizing p)) later) (runFrom k (s .heading .spacing) (s .heading .records + 1) p (s .steps)) .number ≡ 0
+        → controls (s .steps) ≤ length (cond b (followed (s .heading .records) (called (gridSet (s .heading) known m sizing p)) later) (runFrom k (s .heading .spacing) (s .heading .records + 1) p (s .steps)) .cells)
     go true h =
-        let g = going (s .heading .records) (called (gridded (s .heading) known m sizing p)) later h in
-        let r = run-all k (s .heading .spacing) (s .heading .records + 1) (gridded (s .heading) known m sizing p .placer) (s .steps) (g .rest) in
+        let g = going (s .heading .records) (called (gridSet (s .heading) known m sizing p)) later h in
+        let r = run-all k (s .heading .spacing) (s .heading .records + 1) (gridSet (s .heading) known m sizing p .placer) (s .steps) (g .rest) in
         omega (arith, r, ap (λ (cs : List Cell). length cs) (g .cells))
     go false h = run-all k (s .heading .spacing) (s .heading .records + 1) p (s .steps) h
 

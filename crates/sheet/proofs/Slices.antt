@@ -29,7 +29,7 @@ use Rattle.records.specs.declared.Step.the-variants.{Widget, Space, RowHeight, 
 use Rattle.records.specs.declared.Record.{Record}
 use Rattle.records.specs.declared.Record.the-variants as record-of
 use Rattle.sheet.specs.Pass as pass-rules
-use Rattle.sheet.specs.Pass.{Sheet, Cell, Ran, Stepped, stepped, followed, runFrom, called, headed, gridded, begun, ranWith, plateOf, remembered, refusedAt, outcomeOf, pass}
+use Rattle.sheet.specs.Pass.{Sheet, Cell, Ran, Stepped, stepped, followed, runFrom, called, headed, gridSet, begun, ranWith, plateOf, remembered, refusedAt, outcomeOf, pass}
 use Rattle.sheet.specs.Texts.{stepsOf, sheetIn}
 use Rattle.sheet.specs.Slices.{written, afterCheck, laid}
 use Rattle.sheet.specs.Slices.{controls}
@@ -71,11 +71,11 @@ unfolding ranWith begun
 ran-few k s known m sizing p = go (s .heading .«has_grid»)
   where
     later : Ran
-    later = runFrom k (s .heading .spacing) (s .heading .records + 1) (gridded (s .heading) known m sizing p .placer) (s .steps)
+    later = runFrom k (s .heading .spacing) (s .heading .records + 1) (gridSet (s .heading) known m sizing p .placer) (s .steps)
 
-    go : (b : Bool) → length (cond b (followed (s .heading .records) (called (gridded (s .heading) known m sizing p)) later) (runFrom k (s .heading .spacing) (s .heading .records + 1) p (s .steps)) .cells) ≤ controls (s .steps)
+    go : (b : Bool) → length (cond b (followed (s .heading .records) (called (gridSet (s .heading) known m sizing p)) later) (runFrom k (s .heading .spacing) (s .heading .records + 1) p (s .steps)) .cells) ≤ controls (s .steps)
     go true =
-        let f = followed-few (s .heading .records) (called (gridded (s .heading) known m sizing p)) later (controls (s .steps)) (run-few k (s .heading .spacing) (s .heading .records + 1) (gridded (s .heading) known m sizing p .placer) (s .steps)) in
+        let f = followed-few (s .heading .records) (called (gridSet (s .heading) known m sizing p)) later (controls (s .steps)) (run-few k (s .heading .spacing) (s .heading .records + 1) (gridSet (s .heading) known m sizing p .placer) (s .steps)) in
         omega (arith, f)
     go false = run-few k (s .heading .spacing) (s .heading .records + 1) p (s .steps)
 

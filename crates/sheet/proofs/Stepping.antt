@@ -14,10 +14,10 @@ use Rattle.emath.specs.declared.Rect.{Rect}
 use Rattle.emath.specs.declared.Vec2.{Vec2}
 use Rattle.grid.proofs.Unfaulted.{zero-lesser}
 use Rattle.placer.specs.Rules.{nextSpace, justifyAndAlign, advanceAfterRects}
-use Rattle.placer.specs.Refusals.{placerFault, advanceFault, changed}
+use Rattle.placer.specs.Refusals.{placerFault, advanceFault, changedPlacer}
 use Rattle.placer.specs.Operations.{checkedNew, checkedSetGrid, checkedAdvanceCursor, checkedEndRow, checkedSetRowHeight, checkedSetMaxWidth, checkedSetMaxHeight, checkedSetMinWidth, checkedSetMinHeight}
 use Rattle.placer.specs.Implementation.Lent.{pastPart}
-use Rattle.placer.proofs.Accepted.{changed-accepted}
+use Rattle.placer.proofs.Answers.{changed-accepted}
 use Rattle.placer.proofs.Unfaulted.{past-fault}
 use Rattle.placer.specs.declared.Placer.{Placer}
 use Rattle.placer.specs.declared.PlacerAnswer.{PlacerAnswer}
@@ -28,9 +28,9 @@ use Rattle.records.specs.declared.Step.{Step}
 use Rattle.records.specs.declared.Step.the-variants.{Widget, Space, RowHeight, MaxWidth, MaxHeight, MinWidth, MinHeight, RowEnd}
 use Rattle.records.specs.declared.Record.{Record}
 use Rattle.records.specs.declared.Record.the-variants as record-of
-use Rattle.sheet.specs.Pass.{cellOf, widgetFault, widgetStep, gridOf, gridded}
+use Rattle.sheet.specs.Pass.{cellOf, widgetFault, widgetStep, gridOf, gridSet}
 use Rattle.sheet.proofs.Runs.{widget-placed}
-use Rattle.sheet.specs.Implementation.Calls.{givenNumber, answeredNumber, placement, stepMoved, recordMoved}
+use Rattle.sheet.specs.Implementation.Calls.{givenNumber, answeredNumber, placement, stepResult, recordResult}
 
 -- ---- a W
 module _ (p : Placer) (sp s : Vec2) (none : placerFault p ≡ 0) (cols : length (p .grid .«curr_state» .«col_widths») ≡ 32) (rows : length (p .grid .«curr_state» .«row_heights») ≡ 128) where
@@ -67,8 +67,8 @@ module _ (p : Placer) (sp s : Vec2) (none : placerFault p ≡ 0) (cols : length 
 widget-none : (p : Placer) (sp s : Vec2) → widgetStep sp p s (cellOf tick sp p s) .number ≡ 0 → placerFault (widgetStep sp p s (cellOf tick sp p s) .placer) ≡ 0
 widget-none p sp s h = let c = widget-placed sp p s (cellOf tick sp p s) h in rw (c .placer) (c .after)
 
-step-none : (p : Placer) (sp : Vec2) (st : Step) → stepMoved p sp st .number ≡ 0 → placerFault (stepMoved p sp st .placer) ≡ 0
-unfolding stepMoved placement checkedAdvanceCursor checkedEndRow checkedSetRowHeight checkedSetMaxWidth checkedSetMaxHeight checkedSetMinWidth checkedSetMinHeight
+step-none : (p : Placer) (sp : Vec2) (st : Step) → stepResult p sp st .number ≡ 0 → placerFault (stepResult p sp st .placer) ≡ 0
+unfolding stepResult placement checkedAdvanceCursor checkedEndRow checkedSetRowHeight checkedSetMaxWidth checkedSetMaxHeight checkedSetMinWidth checkedSetMinHeight
 step-none p sp (Widget x y) h = widget-none p sp (record { x = x; y = y }) h
 step-none p sp (Space a) h = let c = changed-accepted _ p _ h in rw (c .2) (c .1)
 step-none p sp (RowHeight a) h = let c = changed-accepted _ p _ h in rw (c .2) (c .1)
@@ -78,21 +78,21 @@ step-none p sp (MinWidth a) h = let c = changed-accepted _ p _ h in rw (c .2) (c
 step-none p sp (MinHeight a) h = let c = changed-accepted _ p _ h in rw (c .2) (c .1)
 step-none p sp RowEnd h = let c = changed-accepted _ p _ h in rw (c .2) (c .1)
 
-pub moved-none : (p : Placer) (sp : Vec2) (r : Record) → recordMoved p sp r .number ≡ 0 → placerFault (recordMoved p sp r .placer) ≡ 0
-unfolding recordMoved
+pub moved-none : (p : Placer) (sp : Vec2) (r : Record) → recordResult p sp r .number ≡ 0 → placerFault (recordResult p sp r .placer) ≡ 0
+unfolding recordResult
 moved-none p sp (record-of.Step st) h = step-none p sp st h
 moved-none p sp record-of.Wrong h = absurd (let z : _≡_ {A = ℕ} 1 0 = h in omega arith)
 
 -- ---- nor after H or G
-changed-none : (n : ℕ) (given new : Placer) (a : PlacerAnswer) → a ≡ changed n given new → a .number ≡ 0 → placerFault (a .placer) ≡ 0
+changed-none : (n : ℕ) (given new : Placer) (a : PlacerAnswer) → a ≡ changedPlacer n given new → a .number ≡ 0 → placerFault (a .placer) ≡ 0
 changed-none n given new a e h = let c = changed-accepted n given new (ap (λ (x : PlacerAnswer). x .number) (sym e) ∙ h) in rw (e, c .2) (c .1)
 
 pub headed-none : (k : ℕ) (r : Rect) (l : Layout) (a : PlacerAnswer) → a ≡ checkedNew k r l → a .number ≡ 0 → placerFault (a .placer) ≡ 0
 unfolding checkedNew
 headed-none k r l a e h = changed-none _ _ _ a e h
 
-pub gridded-none : (h : Heading) (known : Bool) (m : Memory) (sizing : Bool) (p : Placer) (a : PlacerAnswer) → a ≡ gridded h known m sizing p → a .number ≡ 0 → placerFault (a .placer) ≡ 0
-unfolding gridded checkedSetGrid
+pub gridded-none : (h : Heading) (known : Bool) (m : Memory) (sizing : Bool) (p : Placer) (a : PlacerAnswer) → a ≡ gridSet h known m sizing p → a .number ≡ 0 → placerFault (a .placer) ≡ 0
+unfolding gridSet checkedSetGrid
 gridded-none h known m sizing p a e z =
     let b = checkedSetGrid p (gridOf h known m sizing p .grid) in
     let n = or-none (gridOf h known m sizing p .number) (b .number) (ap (λ (x : PlacerAnswer). x .number) (sym e) ∙ z) .1 in

@@ -18,7 +18,7 @@ use Rattle.records.specs.Sheets.{checked}
 use Rattle.records.specs.declared.Heading.{Heading}
 use Rattle.records.specs.declared.Step.{Step}
 use Rattle.records.specs.declared.Checked.the-variants.{Accepted, Refused}
-use Rattle.sheet.specs.Pass.{Sheet, Ran, called, followed, runFrom, headed, gridded, refusedAt, outcomeOf, begun, ranWith, pass}
+use Rattle.sheet.specs.Pass.{Sheet, Ran, called, followed, runFrom, headed, gridSet, refusedAt, outcomeOf, begun, ranWith, pass}
 use Rattle.sheet.specs.Texts.{sheetIn}
 use Rattle.sheet.specs.Slices.{written, passedOf, Called, afterCheck, laid}
 use Rattle.sheet.specs.declared.Passed.{Passed}
@@ -47,7 +47,7 @@ began-answers grid m n a later out p exit h x = record { answer = x .answer ∙ 
 -- ---- the records after H
 module _ (k : ℕ) (s : Sheet) (known : Bool) (m : Memory) (sizing : Bool) (p : Placer) where
   with-grid : s .heading .«has_grid» ≡ true
-      → ranWith k s known m sizing p ≡ followed (s .heading .records) (called (gridded (s .heading) known m sizing p)) (runFrom k (s .heading .spacing) (s .heading .records + 1) (gridded (s .heading) known m sizing p .placer) (s .steps))
+      → ranWith k s known m sizing p ≡ followed (s .heading .records) (called (gridSet (s .heading) known m sizing p)) (runFrom k (s .heading .spacing) (s .heading .records + 1) (gridSet (s .heading) known m sizing p .placer) (s .steps))
   unfolding ranWith begun
   with-grid g = rw g
 
@@ -56,7 +56,7 @@ module _ (k : ℕ) (s : Sheet) (known : Bool) (m : Memory) (sizing : Bool) (p : 
   without-grid g = rw g
 
 pub with-grid-answers : (s : Sheet) (known : Bool) (m : Memory) (sizing : Bool) (q : Placer) (out : List ℤ) (p : Passed) (exit : List ℤ) → s .heading .«has_grid» ≡ true
-    → Answers (s .heading .«has_grid») m (followed (s .heading .records) (called (gridded (s .heading) known m sizing q)) (runFrom tick (s .heading .spacing) (s .heading .records + 1) (gridded (s .heading) known m sizing q .placer) (s .steps))) out p exit
+    → Answers (s .heading .«has_grid») m (followed (s .heading .records) (called (gridSet (s .heading) known m sizing q)) (runFrom tick (s .heading .spacing) (s .heading .records + 1) (gridSet (s .heading) known m sizing q .placer) (s .steps))) out p exit
     → Answers (s .heading .«has_grid») m (ranWith tick s known m sizing q) out p exit
 with-grid-answers s known m sizing q out p exit g x = subst (λ (r : Ran). Answers (s .heading .«has_grid») m r out p exit) (sym (with-grid tick s known m sizing q g)) x
 
@@ -85,6 +85,3 @@ pub as-refused : (text : List ℕ) (known : Bool) (m : Memory) (sizing : Bool) (
     → Called text known m sizing out p out
 unfolding laid afterCheck
 as-refused text known m sizing out p n at e x = returned.called text known m sizing out p out (x ∙ rw e) (rw e)
-
-pub no-such : {A : Type 0} → false ≡ true → A
-no-such e = let o : _≡_ {A = ℕ} 0 1 = cc in absurd (omega arith)

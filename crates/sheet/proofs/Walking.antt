@@ -1,5 +1,6 @@
 -- A run over a text, a record at a time: one turn of it, what each return answers, and that the slice has room for each W, whose rectangles
 -- are whole ticks. Assumes nothing.
+use mathlib.Core.Bool.{cond}
 use Prim.Native.Nat.{ℕ, zero, suc, _+_, _-_, _*_, _≤_, _<_}
 use mathlib.Core.Path.{_≡_, refl, ap, sym, _∙_, subst}
 use mathlib.Core.List.{List, [], _∷_}
@@ -22,16 +23,16 @@ use Rattle.records.specs.declared.Step.the-variants.{Widget, Space, RowHeight, 
 use Rattle.records.specs.declared.Record.{Record}
 use Rattle.records.specs.declared.Record.the-variants as record-of
 use Rattle.sheet.specs.Pass.{cellOf}
-use Rattle.sheet.specs.Implementation.Calls.{Moved, placement, stepMoved, recordMoved}
+use Rattle.sheet.specs.Implementation.Calls.{CallResult, placement, stepResult, recordResult}
 use Rattle.sheet.specs.Implementation.Walks.{putAt}
-use Rattle.sheet.proofs.Walks.{Walk, pick, done, walked}
+use Rattle.sheet.proofs.Walks.{Walk, done, walked}
 use Rattle.sheet.proofs.Runs.{widget-placed}
 use Rattle.sheet.proofs.Stepping.{moved-none}
 use Rattle.sheet.proofs.PlacedCells.{cell-whole}
 
 -- ---- a record that is a W, and no other, has a place
-step-placed : (p : Placer) (sp : Vec2) (st : Step) → stepMoved p sp st .placed ≡ widgetStep st
-unfolding stepMoved placement widgetStep
+step-placed : (p : Placer) (sp : Vec2) (st : Step) → stepResult p sp st .placed ≡ widgetStep st
+unfolding stepResult placement widgetStep
 step-placed p sp (Widget w h) = refl
 step-placed p sp (Space a) = refl
 step-placed p sp (RowHeight h) = refl
@@ -41,16 +42,16 @@ step-placed p sp (MinWidth w) = refl
 step-placed p sp (MinHeight h) = refl
 step-placed p sp RowEnd = refl
 
-pub moved-placed : (p : Placer) (sp : Vec2) (r : Record) → recordMoved p sp r .placed ≡ widget r
-unfolding recordMoved widget
-moved-placed p sp (record-of.Step st) = step-placed p sp st
-moved-placed p sp record-of.Wrong = refl
+pub result-placed : (p : Placer) (sp : Vec2) (r : Record) → recordResult p sp r .placed ≡ widget r
+unfolding recordResult widget
+result-placed p sp (record-of.Step st) = step-placed p sp st
+result-placed p sp record-of.Wrong = refl
 
-abbrev pub Whole : Moved → Type 0
+abbrev pub Whole : CallResult → Type 0
 Whole m = WholeRect tick (m .frame) × WholeRect tick (m .widget)
 
-step-whole : (p : Placer) (sp : Vec2) (st : Step) → stepMoved p sp st .number ≡ 0 → 0 < stepMoved p sp st .placed → Whole (stepMoved p sp st)
-unfolding stepMoved placement
+step-whole : (p : Placer) (sp : Vec2) (st : Step) → stepResult p sp st .number ≡ 0 → 0 < stepResult p sp st .placed → Whole (stepResult p sp st)
+unfolding stepResult placement
 step-whole p sp (Widget w h) n l = let c = cell-whole tick (omega arith) sp p (record { x = w; y = h }) (widget-placed sp p (record { x = w; y = h }) (cellOf tick sp p (record { x = w; y = h })) n) in (c .frame, c .widget)
 step-whole p sp (Space a) n l = absurd (omega (arith, l))
 step-whole p sp (RowHeight h) n l = absurd (omega (arith, l))
@@ -60,10 +61,10 @@ step-whole p sp (MinWidth w) n l = absurd (omega (arith, l))
 step-whole p sp (MinHeight h) n l = absurd (omega (arith, l))
 step-whole p sp RowEnd n l = absurd (omega (arith, l))
 
-pub moved-whole : (p : Placer) (sp : Vec2) (r : Record) → recordMoved p sp r .number ≡ 0 → 0 < recordMoved p sp r .placed → Whole (recordMoved p sp r)
-unfolding recordMoved
-moved-whole p sp (record-of.Step st) n l = step-whole p sp st n l
-moved-whole p sp record-of.Wrong n l = absurd (omega (arith, l))
+pub result-whole : (p : Placer) (sp : Vec2) (r : Record) → recordResult p sp r .number ≡ 0 → 0 < recordResult p sp r .placed → Whole (recordResult p sp r)
+unfolding recordResult
+result-whole p sp (record-of.Step st) n l = step-whole p sp st n l
+result-whole p sp record-of.Wrong n l = absurd (omega (arith, l))
 
 one-or-none : (st : Step) → widgetStep st ≤ 1
 unfolding widgetStep
@@ -84,9 +85,9 @@ at-most-one record-of.Wrong = omega arith
 -- ---- one turn
 front : (left : ℕ) (sp : Vec2) (n : ℕ) (p : Placer) (u : List ℕ) (out : List ℤ) (w : ℕ) → 0 < left → 0 < length u
     → walked left sp n p u out w
-    ≡ pick (eqb (recordMoved p sp (recordOf u) .number) 0)
-    (walked (left - 1) sp (n + 1) (recordMoved p sp (recordOf u) .placer) (rest u) (putAt out w (recordMoved p sp (recordOf u) .placed) (recordMoved p sp (recordOf u) .frame) (recordMoved p sp (recordOf u) .widget)) (w + recordMoved p sp (recordOf u) .placed))
-    (record { run = record { number = recordMoved p sp (recordOf u) .number; at = n; placer = recordMoved p sp (recordOf u) .placer }; slice = out })
+    ≡ cond (eqb (recordResult p sp (recordOf u) .number) 0)
+    (walked (left - 1) sp (n + 1) (recordResult p sp (recordOf u) .placer) (rest u) (putAt out w (recordResult p sp (recordOf u) .placed) (recordResult p sp (recordOf u) .frame) (recordResult p sp (recordOf u) .widget)) (w + recordResult p sp (recordOf u) .placed))
+    (record { run = record { number = recordResult p sp (recordOf u) .number; at = n; placer = recordResult p sp (recordOf u) .placer }; slice = out })
 unfolding walked
 front zero sp n p u out w h l = absurd (omega arith)
 front (suc left) sp n p [] out w h l = absurd (omega arith)
@@ -109,8 +110,8 @@ module _ (text : List ℕ) (sp : Vec2) (left n at w : ℕ) (p : Placer) (out : L
   pub walk-is-full : left ≤ 0 → done p out ≡ r
   walk-is-full h = sym (full-walk left sp n p (drop at text) out w h) ∙ inv
 
-  module _ (more : 0 < left) (here : at < length text) (m : Moved) (em : m ≡ recordMoved p sp (recordAt text at)) where
-    turn : pick (eqb (m .number) 0) (walked (left - 1) sp (n + 1) (m .placer) (drop (nextAt text at) text) (putAt out w (m .placed) (m .frame) (m .widget)) (w + m .placed))
+  module _ (more : 0 < left) (here : at < length text) (m : CallResult) (em : m ≡ recordResult p sp (recordAt text at)) where
+    turn : cond (eqb (m .number) 0) (walked (left - 1) sp (n + 1) (m .placer) (drop (nextAt text at) text) (putAt out w (m .placed) (m .frame) (m .widget)) (w + m .placed))
         (record { run = record { number = m .number; at = n; placer = m .placer }; slice = out }) ≡ r
     unfolding recordAt
     turn =
@@ -128,14 +129,14 @@ module _ (text : List ℕ) (sp : Vec2) (left n at w : ℕ) (p : Placer) (out : L
     unfolding widgets
     room-left h =
         let e : widgets (recordsFrom left (drop at text)) ≡ widget (recordAt text at) + widgets (recordsFrom (left - 1) (drop (nextAt text at) text)) = ap (λ (rs : List Record). widgets rs) (records-step left text at more here) in
-        let q : m .placed ≡ widget (recordAt text at) = ap (λ (x : Moved). x .placed) em ∙ moved-placed p sp (recordAt text at) in
+        let q : m .placed ≡ widget (recordAt text at) = ap (λ (x : CallResult). x .placed) em ∙ result-placed p sp (recordAt text at) in
         omega (arith, h, e, q)
 
-    pub moved-few : m .placed ≤ 1
-    moved-few = omega (arith, ap (λ (x : Moved). x .placed) em ∙ moved-placed p sp (recordAt text at), at-most-one (recordAt text at))
+    pub result-few : m .placed ≤ 1
+    result-few = omega (arith, ap (λ (x : CallResult). x .placed) em ∙ result-placed p sp (recordAt text at), at-most-one (recordAt text at))
 
-    pub moved-in-ticks : m .number ≡ 0 → 0 < m .placed → Whole m
-    moved-in-ticks h l = subst Whole (sym em) (moved-whole p sp (recordAt text at) (ap (λ (x : Moved). x .number) (sym em) ∙ h) (subst (λ (x : Moved). 0 < x .placed) em l))
+    pub result-in-ticks : m .number ≡ 0 → 0 < m .placed → Whole m
+    result-in-ticks h l = subst Whole (sym em) (result-whole p sp (recordAt text at) (ap (λ (x : CallResult). x .number) (sym em) ∙ h) (subst (λ (x : CallResult). 0 < x .placed) em l))
 
     pub moved-unfaulted : m .number ≡ 0 → placerFault (m .placer) ≡ 0
-    moved-unfaulted h = subst (λ (x : Moved). placerFault (x .placer) ≡ 0) (sym em) (moved-none p sp (recordAt text at) (ap (λ (x : Moved). x .number) (sym em) ∙ h))
+    moved-unfaulted h = subst (λ (x : CallResult). placerFault (x .placer) ≡ 0) (sym em) (moved-none p sp (recordAt text at) (ap (λ (x : CallResult). x .number) (sym em) ∙ h))

@@ -1,22 +1,18 @@
 -- A run over a text in the order in which the loop goes: from the front of the text on, record by record.
 use Prim.Native.Nat.{ℕ, zero, suc, _+_}
-use mathlib.Core.Bool.{Bool, true, false}
+use mathlib.Core.Bool.{Bool, true, false, cond}
 use mathlib.Core.List.{List, [], _∷_}
 use lib.IntN.{ℤ}
 use lib.Dec.{eqb}
 use Rattle.emath.specs.declared.Vec2.{Vec2}
 use Rattle.placer.specs.declared.Placer.{Placer}
 use Rattle.records.specs.Records.{recordOf, rest}
-use Rattle.sheet.specs.Implementation.Calls.{recordMoved}
+use Rattle.sheet.specs.Implementation.Calls.{recordResult}
 use Rattle.sheet.specs.Implementation.Walks.{putAt, Run}
 
 pub record Walk : Type 0 where
   pub run : Run
   pub slice : List ℤ
-
-abbrev pub pick : Bool → Walk → Walk → Walk
-pick true a b = a
-pick false a b = b
 
 abbrev pub done : Placer → List ℤ → Walk
 done p out = record { run = record { number = 0; at = 0; placer = p }; slice = out }
@@ -26,7 +22,7 @@ unfoldable pub walked : ℕ → Vec2 → ℕ → Placer → List ℕ → List �
 walked zero sp n p s out w = done p out
 walked (suc left) sp n p [] out w = done p out
 walked (suc left) sp n p (b ∷ s) out w =
-    let m = recordMoved p sp (recordOf (b ∷ s)) in
-    pick (eqb (m .number) 0)
+    let m = recordResult p sp (recordOf (b ∷ s)) in
+    cond (eqb (m .number) 0)
     (walked left sp (n + 1) (m .placer) (rest (b ∷ s)) (putAt out w (m .placed) (m .frame) (m .widget)) (w + m .placed))
     (record { run = record { number = m .number; at = n; placer = m .placer }; slice = out })

@@ -100,8 +100,8 @@ unfoldable pub gridOf : Heading → Bool → Memory → Bool → Placer → Grid
 gridOf h known m sizing p =
     checkedNewGrid (h .layout .«main_dir») (p .region) known m sizing (h .spacing) (h .options .«min_cell_size») (h .options .«max_cell_size») (h .options .«num_columns») (h .options .«start_row»)
 
-unfoldable pub gridded : Heading → Bool → Memory → Bool → Placer → PlacerAnswer
-gridded h known m sizing p =
+unfoldable pub gridSet : Heading → Bool → Memory → Bool → Placer → PlacerAnswer
+gridSet h known m sizing p =
     record {
       number = orElse (gridOf h known m sizing p .number) (checkedSetGrid p (gridOf h known m sizing p .grid) .number);
       placer = checkedSetGrid p (gridOf h known m sizing p .grid) .placer;
@@ -143,8 +143,8 @@ begun n a later = followed n (called a) later
 unfoldable pub ranWith : ℕ → Sheet → Bool → Memory → Bool → Placer → Ran
 ranWith k s known m sizing p =
     cond (s .heading .«has_grid»)
-    (begun (s .heading .records) (gridded (s .heading) known m sizing p)
-    (runFrom k (s .heading .spacing) (s .heading .records + 1) (gridded (s .heading) known m sizing p .placer) (s .steps)))
+    (begun (s .heading .records) (gridSet (s .heading) known m sizing p)
+    (runFrom k (s .heading .spacing) (s .heading .records + 1) (gridSet (s .heading) known m sizing p .placer) (s .steps)))
     (runFrom k (s .heading .spacing) (s .heading .records + 1) p (s .steps))
 
 -- a pass over a sheet with a memory (or none) and a sizing flag

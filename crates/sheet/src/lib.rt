@@ -1,7 +1,7 @@
 // A sheet's pass: the rules in specs/, the call that runs them, and what is proved of them.
 use emath::Rect;
 use grid::Memory;
-use placer::Spot;
+use placer::PassState;
 
 pub mod cells;
 mod outcomes;
@@ -11,19 +11,19 @@ mod walk;
 
 // What a record gives: its number (0: none), what the pass carries on, the given one where it is refused; how many W it is, 1 or 0, and a
 // W's rectangles.
-pub struct SpotMoved {
+pub struct StepResult {
     pub number: u8,
-    pub spot: Spot,
+    pub state: PassState,
     pub placed: usize,
     pub frame: Rect,
     pub widget: Rect,
 }
 
 // How far a run came: a refusal's number (0: none) and record, and what it carried.
-pub struct SpotRun {
+pub struct RunResult {
     pub number: u8,
     pub at: usize,
-    pub spot: Spot,
+    pub state: PassState,
 }
 
 // Whether a pass is accepted, or the number of document 01's table and the record, from 1.

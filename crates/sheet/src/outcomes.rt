@@ -1,20 +1,20 @@
 // What a pass answers: a refusal, or what the run came to; and the placer that G gives.
 use crate::Laid;
 use crate::Passed;
-use crate::SpotRun;
+use crate::RunResult;
 use emath::Rect;
 use emath::faults::or_else;
 use grid::GridLayout;
 use grid::Memory;
-use placer::BarePlacer;
 use placer::Placer;
 use placer::PlacerAnswer;
+use placer::PlacerSettings;
 use placer::lent::whole;
 use placer::rules::save_grid;
 use records::Heading;
 ghost use mathlib.Core.Path.{_≡_};
 ghost use mathlib.Core.List.{List, []};
-ghost use Rattle.sheet.specs.Pass.{Cell, refusedAt, outcomeOf, gridded as griddedBy};
+ghost use Rattle.sheet.specs.Pass.{Cell, refusedAt, outcomeOf, gridSet as griddedBy};
 ghost use Rattle.sheet.specs.Implementation.Walks.{runOf, ranOf};
 ghost use Rattle.sheet.specs.Slices.{laidOf, passedOf};
 
@@ -32,12 +32,7 @@ pub(crate) fn refused(number: u8, at: usize, memory: Memory) -> Passed
     ensures { λ r. ⌜ r ≡ passedOf (refusedAt number at [] memory) ⌝ }
 {
     let laid = laid_of(number, at);
-    let plate = Rect {
-        left: 0.0,
-        top: 0.0,
-        right: 0.0,
-        bottom: 0.0,
-    };
+    let plate = Rect::ZERO;
     Passed {
         laid,
         plate,
@@ -50,8 +45,8 @@ pub(crate) fn refused(number: u8, at: usize, memory: Memory) -> Passed
 pub(crate) fn finish(
     grid: bool,
     memory: Memory,
-    placer: BarePlacer,
-    r: SpotRun,
+    placer: PlacerSettings,
+    r: RunResult,
     prev: Memory,
     widths: [f32; 32],
     heights: [f32; 128],
@@ -62,7 +57,7 @@ pub(crate) fn finish(
     if number != 0 {
         return refused(number, r.at, memory);
     }
-    let s = r.spot;
+    let s = r.state;
     let region = s.region;
     let plate = region.min_rect;
     let laid = Laid::Accepted;
@@ -85,7 +80,7 @@ pub(crate) fn finish(
 }
 
 // G: GridLayout's `new` with the given memory, then `set_grid`.
-pub(crate) fn gridded(
+pub(crate) fn grid_set(
     heading: Heading,
     known: bool,
     memory: Memory,

@@ -1,7 +1,7 @@
 // One pass over a sheet's text, with a memory or none, and a lent slice for the rectangles.
 use crate::Passed;
 use crate::outcomes::finish;
-use crate::outcomes::gridded;
+use crate::outcomes::grid_set;
 use crate::outcomes::refused;
 use crate::walk::run;
 use emath::Vec2;
@@ -9,8 +9,8 @@ use grid::Memory;
 use grid::memories::heights_of;
 use grid::memories::widths_of;
 use placer::Placer;
-use placer::lent::bare;
-use placer::lent::spot;
+use placer::lent::settings;
+use placer::lent::state;
 use records::CACHE_LEN;
 use records::Checked;
 use records::Heading;
@@ -25,7 +25,7 @@ ghost use Rattle.emath.specs.Steps.{tick};
 ghost use Rattle.placer.specs.Refusals.{placerFault};
 ghost use Rattle.records.specs.Sheets.{recordsFrom, widgets};
 ghost use Rattle.records.specs.Implementation.SizeCache.{AreCached, cachedBy};
-ghost use Rattle.sheet.specs.Pass.{called, followed, gridded as griddedBy, runFrom, pass as passBy};
+ghost use Rattle.sheet.specs.Pass.{called, followed, gridSet as griddedBy, runFrom, pass as passBy};
 ghost use Rattle.sheet.specs.Texts.{stepsOf};
 ghost use Rattle.sheet.specs.Slices.{written, passedOf, Called};
 ghost use Rattle.sheet.specs.Implementation.Walks.{OnlySteps, recordsAfter, sheetAfter, Room, Known, Answers};
@@ -54,7 +54,7 @@ fn walk_from(
     let prev_heights = heights_of(prev);
     let mut widths = widths_of(g.curr_state);
     let mut heights = heights_of(g.curr_state);
-    let b = bare(placer);
+    let b = settings(placer);
     let r = run(
         text,
         sizes,
@@ -62,7 +62,7 @@ fn walk_from(
         first,
         most,
         b,
-        spot(placer),
+        state(placer),
         &prev_widths,
         &prev_heights,
         &mut widths,
@@ -114,7 +114,7 @@ fn with_grid(
     requires { ⌜ Room heading (now text) (length (now out)) (now sizes) ⌝ }
     ensures { λ r. ⌜ Answers (heading .«has_grid») memory (followed (heading .records) (called (griddedBy heading known memory sizing placer)) (runFrom tick (heading .spacing) (heading .records + 1) (griddedBy heading known memory sizing placer .placer) (stepsOf (recordsAfter heading (now (text .entry)))))) (now (out .entry)) r (now (out .exit)) ⌝ }
 {
-    let a = gridded(heading, known, memory, sizing, placer);
+    let a = grid_set(heading, known, memory, sizing, placer);
     let number = a.number;
     if number != 0 {
         return refused(number, heading.records, memory);

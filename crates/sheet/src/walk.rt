@@ -1,10 +1,10 @@
 // The records of a text one after the other.
-use crate::SpotRun;
+use crate::RunResult;
 use crate::cells::put;
-use crate::steps::record_moved;
+use crate::steps::run_record;
 use emath::Vec2;
-use placer::BarePlacer;
-use placer::Spot;
+use placer::PassState;
+use placer::PlacerSettings;
 use records::records::next_record;
 use records::size_cache::cached_record;
 ghost use mathlib.Core.Path.{_≡_};
@@ -24,34 +24,34 @@ pub fn run(
     from: usize,
     first: usize,
     most: usize,
-    placer: BarePlacer,
-    spot: Spot,
+    placer: PlacerSettings,
+    state: PassState,
     prev_widths: &[f32],
     prev_heights: &[f32],
     widths: &mut [f32],
     heights: &mut [f32],
     spacing: Vec2,
     out: &mut [i32],
-) -> SpotRun
-    requires { ⌜ Ready placer spot (now «prev_widths») (now «prev_heights») (now widths) (now heights) ⌝ }
+) -> RunResult
+    requires { ⌜ Ready placer state (now «prev_widths») (now «prev_heights») (now widths) (now heights) ⌝ }
     requires { ⌜ (from ≤ length (now text)) × (first + most ≤ 513) ⌝ }
     requires { ⌜ OnlySteps (recordsFrom most (drop from (now text))) × (8 * widgets (recordsFrom most (drop from (now text))) ≤ length (now out)) × (length (now sizes) ≡ 1026) × AreCached most (drop from (now text)) (now sizes) first ⌝ }
-    ensures { λ r. ⌜ Walked spacing first (placerOf placer spot (now («prev_widths» .entry)) (now («prev_heights» .entry)) (now (widths .entry)) (now (heights .entry))) (stepsOf (recordsFrom most (drop from (now (text .entry))))) (now (out .entry)) (runOf placer r (now («prev_widths» .entry)) (now («prev_heights» .entry)) (now (widths .exit)) (now (heights .exit))) (now (out .exit)) ⌝ }
+    ensures { λ r. ⌜ Walked spacing first (placerOf placer state (now («prev_widths» .entry)) (now («prev_heights» .entry)) (now (widths .entry)) (now (heights .entry))) (stepsOf (recordsFrom most (drop from (now (text .entry))))) (now (out .entry)) (runOf placer r (now («prev_widths» .entry)) (now («prev_heights» .entry)) (now (widths .exit)) (now (heights .exit))) (now (out .exit)) ⌝ }
 {
-    let mut s = spot;
+    let mut s = state;
     let mut at = from;
     let mut n = first;
     let mut w: usize = 0;
     let mut left = most;
     while 0 < left {
         if text.len() <= at {
-            return SpotRun {
+            return RunResult {
                 number: 0,
                 at: 0,
-                spot: s,
+                state: s,
             };
         }
-        let m = record_moved(
+        let m = run_record(
             placer,
             s,
             prev_widths,
@@ -62,12 +62,12 @@ pub fn run(
             cached_record(text, at, sizes, n),
         );
         let number = m.number;
-        let next = m.spot;
+        let next = m.state;
         if number != 0 {
-            return SpotRun {
+            return RunResult {
                 number,
                 at: n,
-                spot: next,
+                state: next,
             };
         }
         w = put(out, w, m.placed, m.frame, m.widget);
@@ -76,9 +76,9 @@ pub fn run(
         n += 1;
         left -= 1;
     }
-    SpotRun {
+    RunResult {
         number: 0,
         at: 0,
-        spot: s,
+        state: s,
     }
 }

@@ -2,7 +2,7 @@
 -- nothing.
 use Prim.Native.Nat.{ℕ, zero, suc, _+_, _*_, _≤_, _<_}
 use mathlib.Core.Path.{_≡_, refl, ap, sym, _∙_, subst}
-use mathlib.Core.Bool.{Bool, true, false, cond, _&&_}
+use mathlib.Core.Bool.{Bool, true, false, cond, _&&_, true≢false}
 use mathlib.Core.List.{List, [], _∷_, _++_, append-assoc}
 use native.Mathlib.Omega.{arith}
 use borrow.Author.Tests.{eq-eqb, eqb-true}
@@ -30,7 +30,6 @@ use Rattle.sheet.specs.Texts.{sheetIn}
 use Rattle.sheet.proofs.Shown.{pass-all}
 use Rattle.sheet.proofs.Slices.{pass-few}
 use Rattle.pass_laws.proofs.TextTicks.{text-whole}
-use Rattle.sheet.proofs.WalkedPasses.{no-such}
 use Rattle.pass_laws.proofs.WholeEdges.{whole-pass}
 use Rattle.listing.specs.Lists.{widgetLines, printed, acceptedLines, outcomeLines, memoryLines, answered, listOf}
 use Rattle.listing.specs.Implementation.ListWriter.{WholeMemory}
@@ -178,7 +177,7 @@ module _ (text : List ℕ) (r w : ℕ) (e : checked text 4096 ≡ checked-of.Acc
     where
       go : (b : Bool) → eqb (passes 5 (sheetIn text) emptyMemory 0 .number) 0 ≡ b → b && grid ≡ true → passes 5 (sheetIn text) emptyMemory 0 .number ≡ 0
       go true t h = eqb-true (passes 5 (sheetIn text) emptyMemory 0 .number) 0 t
-      go false t h = no-such h
+      go false t h = absurd (true≢false (sym h))
 
   -- the first pass, and the second
   first-shown : passes 5 (sheetIn text) emptyMemory 0 .number ≡ 0 → Shows grid (acceptedLines (headingIn text) (records text) (passes 5 (sheetIn text) emptyMemory 0)) (passes 5 (sheetIn text) emptyMemory 0)

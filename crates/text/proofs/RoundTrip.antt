@@ -10,7 +10,7 @@ use lib.Dec.{leb, ltb, eqb, lit<}
 use lib.ListN.{length, take, drop}
 use lib.IntN.{ℤ, pos, negsuc, negℤ, natAbs}
 use mathlib.Core.Logic.{_⊎_, inl, inr}
-use Rattle.text.specs.Fields.{shown, column, columns, text, hasText, grow, digitsFrom, same, blank, pick, numberOf, field, fieldAt}
+use Rattle.text.specs.Fields.{shown, column, columns, text, hasText, grow, digitsFrom, same, blank, numberOf, field, fieldAt}
 use Rattle.text.specs.declared.Field.the-variants.{Blank, Number, Wrong}
 
 -- ---- equality of lists, as a test
@@ -155,7 +155,7 @@ sign-differs n (suc k) h l =
     (λ s. sign-differs n k h (omega (arith, p, leb-false (10 ^ suc k / 10) (max n 1) s)))
 
 -- ---- what is read as a number is its text, and a number's text is read as the number
-read-by : (a b c d : Bool) (p q z : ℤ) → pick a Blank (pick b Wrong (pick c (Number p) (pick d (Number q) Wrong))) ≡ Number z
+read-by : (a b c d : Bool) (p q z : ℤ) → cond a Blank (cond b Wrong (cond c (Number p) (cond d (Number q) Wrong))) ≡ Number z
     → (b ≡ false) × (((c ≡ true) × (p ≡ z)) ⊎ ((c ≡ false) × (d ≡ true) × (q ≡ z)))
 read-by true b c d p q z h = let o : _≡_ {A = ℕ} 0 1 = cc in absurd (omega arith)
 read-by false true c d p q z h = let o : _≡_ {A = ℕ} 0 1 = cc in absurd (omega arith)
@@ -244,6 +244,6 @@ pub at-is-text : (limit : ℕ) (s : List ℕ) (at : ℕ) (z : ℤ) → fieldAt l
 unfolding fieldAt
 at-is-text limit s at z = go (leb (at + 8) (length s))
   where
-    go : (b : Bool) → pick b (field limit (take 8 (drop at s))) Wrong ≡ Number z → (take 8 (drop at s) ≡ text z) × (natAbs z ≤ limit)
+    go : (b : Bool) → cond b (field limit (take 8 (drop at s))) Wrong ≡ Number z → (take 8 (drop at s) ≡ text z) × (natAbs z ≤ limit)
     go true e = read-is-text limit (take 8 (drop at s)) z e
     go false e = let o : _≡_ {A = ℕ} 0 1 = cc in absurd (omega arith)

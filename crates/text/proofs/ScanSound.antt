@@ -2,21 +2,18 @@
 use Prim.Native.Nat.{ℕ, zero, suc, _+_, _-_, _*_, _/_, _%_, _^_, max, _≤_, _<_}
 use mathlib.Core.Path.{_≡_, refl, ap, sym, _∙_}
 use mathlib.Core.List.{List, [], _∷_}
-use mathlib.Core.Bool.{Bool, true, false, cond}
+use mathlib.Core.Bool.{Bool, true, false, cond, true≢false}
 use native.Mathlib.Omega.{arith}
 use native.Mathlib.Nat.{pow-suc, div-div-eq-div-mul, div-eq-of-lt, div-one, div-lt-iff-lt-mul}
 use borrow.Author.Tests.{le-leb, lt-leb, eq-eqb, eqb-true, leb-true, leb-false, ltb-false}
 use lib.Dec.{leb, ltb, eqb}
 use lib.ListN.{length}
 use lib.IntN.{ℤ, pos, negsuc, negℤ}
-use Rattle.text.specs.Fields.{shown, column, columns, pick}
+use Rattle.text.specs.Fields.{shown, column, columns}
 use Rattle.text.specs.Implementation.Scanning.{none, valueFrom, zeroOnly, unsigned, fits, plus, minus, signed, scan}
 use Rattle.text.specs.declared.Field.the-variants.{Number, Wrong}
 use Rattle.text.proofs.Turns.{ten-pos}
 use Rattle.text.proofs.RoundTrip.{minus-at}
-
-pub no-such : {A : Type 0} → false ≡ true → A
-no-such e = let o : _≡_ {A = ℕ} 0 1 = cc in absurd (omega arith)
 
 -- ---- powers of ten
 pub next-power : (n k : ℕ) → n / 10 ^ suc k ≡ n / 10 ^ k / 10
@@ -104,7 +101,7 @@ module _ (neg : Bool) where
     where
       go : (x : Bool) → eqb b 48 ≡ x → (cond x (zeroOnly s) (valueFrom 0 (b ∷ s)) ≡ none → ⊥) → Whole (cond x (zeroOnly s) (valueFrom 0 (b ∷ s))) (suc (length s)) (b ∷ s)
       go true e h = alone b s h (eqb-true b 48 e)
-      go false e h = leading b s (λ (z : b ≡ 48). no-such (sym e ∙ eq-eqb b 48 z)) h
+      go false e h = leading b s (λ (z : b ≡ 48). absurd (true≢false (sym (sym e ∙ eq-eqb b 48 z)))) h
 
 -- ---- what is read as a number is its columns
 pub data Read (limit : ℕ) : ℤ → ℕ → List ℕ → Type 0 where
@@ -137,14 +134,14 @@ unfolding fits
 fits-is limit n h = go (eqb n none) refl h
   where
     go : (x : Bool) → eqb n none ≡ x → cond x false (leb n limit) ≡ true → (n ≡ none → ⊥) × (n ≤ limit)
-    go true e h = no-such h
-    go false e h = (λ (q : n ≡ none). no-such (sym e ∙ eq-eqb n none q), leb-true n limit h)
+    go true e h = absurd (true≢false (sym h))
+    go false e h = (λ (q : n ≡ none). absurd (true≢false (sym (sym e ∙ eq-eqb n none q))), leb-true n limit h)
 
 plus-is : (limit n : ℕ) (z : ℤ) → plus limit n ≡ Number z → (n ≡ none → ⊥) × (n ≤ limit) × (pos n ≡ z)
 unfolding plus
 plus-is limit n z h = go (fits limit n) refl h
   where
-    go : (x : Bool) → fits limit n ≡ x → pick x (Number (pos n)) Wrong ≡ Number z → (n ≡ none → ⊥) × (n ≤ limit) × (pos n ≡ z)
+    go : (x : Bool) → fits limit n ≡ x → cond x (Number (pos n)) Wrong ≡ Number z → (n ≡ none → ⊥) × (n ≤ limit) × (pos n ≡ z)
     go true e h = let f = fits-is limit n e in (f .0, f .1, cc)
     go false e h = let o : _≡_ {A = ℕ} 0 1 = cc in absurd (omega arith)
 
@@ -152,11 +149,11 @@ minus-is : (limit n : ℕ) (z : ℤ) → minus limit n ≡ Number z → (n ≡ 0
 unfolding minus
 minus-is limit n z h = go (eqb n 0) (fits limit n) refl refl h
   where
-    go : (w x : Bool) → eqb n 0 ≡ w → fits limit n ≡ x → pick w Wrong (pick x (Number (negℤ (pos n))) Wrong) ≡ Number z
+    go : (w x : Bool) → eqb n 0 ≡ w → fits limit n ≡ x → cond w Wrong (cond x (Number (negℤ (pos n))) Wrong) ≡ Number z
         → (n ≡ 0 → ⊥) × (n ≡ none → ⊥) × (n ≤ limit) × (negℤ (pos n) ≡ z)
     go true x d e h = let o : _≡_ {A = ℕ} 0 1 = cc in absurd (omega arith)
     go false false d e h = let o : _≡_ {A = ℕ} 0 1 = cc in absurd (omega arith)
-    go false true d e h = let f = fits-is limit n e in (λ (q : n ≡ 0). no-such (sym d ∙ eq-eqb n 0 q), f .0, f .1, cc)
+    go false true d e h = let f = fits-is limit n e in (λ (q : n ≡ 0). absurd (true≢false (sym (sym d ∙ eq-eqb n 0 q))), f .0, f .1, cc)
 
 minus-sound : (limit n : ℕ) (b : ℕ) (s : List ℕ) → b ≡ 45 → 1 ≤ length s → Whole true n (length s) s → (n ≡ 0 → ⊥) → n ≤ limit → Read limit (negℤ (pos n)) (suc (length s)) (b ∷ s)
 unfolding columns
@@ -177,7 +174,7 @@ signed-sound : (limit b : ℕ) (s : List ℕ) (z : ℤ) → signed limit (b ∷ 
 unfolding signed
 signed-sound limit b s z h = go (eqb b 45) refl h
   where
-    go : (x : Bool) → eqb b 45 ≡ x → pick x (minus limit (unsigned s)) (plus limit (unsigned (b ∷ s))) ≡ Number z → Read limit z (suc (length s)) (b ∷ s)
+    go : (x : Bool) → eqb b 45 ≡ x → cond x (minus limit (unsigned s)) (plus limit (unsigned (b ∷ s))) ≡ Number z → Read limit z (suc (length s)) (b ∷ s)
     go true e h = after-minus limit b s z (eqb-true b 45 e) h
     go false e h =
         let m = plus-is limit (unsigned (b ∷ s)) z h in
@@ -189,6 +186,6 @@ unfolding scan
 scan-sound limit [] z h = let o : _≡_ {A = ℕ} 0 1 = cc in absurd (omega arith)
 scan-sound limit (b ∷ s) z h = go (eqb b 32) refl h (scan-sound limit s z)
   where
-    go : (x : Bool) → eqb b 32 ≡ x → pick x (scan limit s) (signed limit (b ∷ s)) ≡ Number z → (scan limit s ≡ Number z → Read limit z (length s) s) → Read limit z (suc (length s)) (b ∷ s)
+    go : (x : Bool) → eqb b 32 ≡ x → cond x (scan limit s) (signed limit (b ∷ s)) ≡ Number z → (scan limit s ≡ Number z → Read limit z (length s) s) → Read limit z (suc (length s)) (b ∷ s)
     go true e h i = rw (eqb-true b 32 e) (one-space limit z (length s) s (i h))
     go false e h i = signed-sound limit b s z h

@@ -2,20 +2,20 @@
 use Prim.Native.Nat.{ℕ, zero, suc, _+_, _-_, _*_, _/_, _%_, _^_, max, _≤_, _<_}
 use mathlib.Core.Path.{_≡_, refl, ap, sym, _∙_}
 use mathlib.Core.List.{List, [], _∷_}
-use mathlib.Core.Bool.{Bool, true, false, cond}
+use mathlib.Core.Bool.{Bool, true, false, cond, true≢false}
 use native.Mathlib.Omega.{arith}
 use native.Mathlib.Nat.{pow-suc, div-one, div-lt-iff-lt-mul, le-div-iff-mul-le}
 use borrow.Author.Tests.{lt-ltb, le-ltb, le-leb, eq-eqb, ne-eqb, leb-true, leb-false, ltb-true}
 use lib.Dec.{ltb, eqb}
 use lib.ListN.{length}
 use lib.IntN.{ℤ, pos, negsuc, negℤ, natAbs}
-use Rattle.text.specs.Fields.{shown, column, columns, text, hasText, digitsFrom, same, blank, pick, numberOf, field}
+use Rattle.text.specs.Fields.{shown, column, columns, text, hasText, digitsFrom, same, blank, numberOf, field}
 use Rattle.text.specs.Implementation.Scanning.{none, valueFrom, zeroOnly, unsigned, fits, plus, minus, signed, scan}
 use Rattle.text.specs.declared.Field.{Field}
 use Rattle.text.specs.declared.Field.the-variants.{Blank, Number, Wrong}
 use Rattle.text.proofs.Turns.{ten-pos}
 use Rattle.text.proofs.RoundTrip.{minus-at, blank-at, read-is-text, read-has-text, text-is-read}
-use Rattle.text.proofs.ScanSound.{no-such, next-power, below, digit-at, space-at, ten-at-least, not-shown, Read, plain, below-zero, scan-sound}
+use Rattle.text.proofs.ScanSound.{next-power, below, digit-at, space-at, ten-at-least, not-shown, Read, plain, below-zero, scan-sound}
 
 -- ---- a number's columns are read as the number
 value-of : (neg : Bool) (n k : ℕ) → 10 ^ k ≤ 10 * max n 1 → valueFrom (n / 10 ^ k) (columns neg n k) ≡ n
@@ -106,7 +106,7 @@ module _ (limit n : ℕ) (s : n < 100000000) (l : n ≤ limit) where
 abbrev NotBlank : Field → Type 0
 NotBlank f = f ≡ Blank → ⊥
 
-either : (b : Bool) (x y : Field) → NotBlank x → NotBlank y → NotBlank (pick b x y)
+either : (b : Bool) (x y : Field) → NotBlank x → NotBlank y → NotBlank (cond b x y)
 either true x y p q = p
 either false x y p q = q
 
@@ -129,7 +129,7 @@ unfolding scan blank
 scan-blank limit [] h = refl
 scan-blank limit (b ∷ s) h = go (eqb b 32) h (scan-blank limit s)
   where
-    go : (x : Bool) → pick x (scan limit s) (signed limit (b ∷ s)) ≡ Blank → (scan limit s ≡ Blank → blank s ≡ true) → cond x (blank s) false ≡ true
+    go : (x : Bool) → cond x (scan limit s) (signed limit (b ∷ s)) ≡ Blank → (scan limit s ≡ Blank → blank s ≡ true) → cond x (blank s) false ≡ true
     go true h i = i h
     go false h i = absurd (no-blank limit (b ∷ s) h)
 
@@ -138,9 +138,9 @@ unfolding scan blank
 blank-scan limit [] h = refl
 blank-scan limit (b ∷ s) h = go (eqb b 32) h (blank-scan limit s)
   where
-    go : (x : Bool) → cond x (blank s) false ≡ true → (blank s ≡ true → scan limit s ≡ Blank) → pick x (scan limit s) (signed limit (b ∷ s)) ≡ Blank
+    go : (x : Bool) → cond x (blank s) false ≡ true → (blank s ≡ true → scan limit s ≡ Blank) → cond x (scan limit s) (signed limit (b ∷ s)) ≡ Blank
     go true h i = i h
-    go false h i = no-such h
+    go false h i = absurd (true≢false (sym h))
 
 -- ---- so it is the field
 eight-digits : 10 ^ 8 ≡ 100000000
@@ -169,7 +169,7 @@ blank-field : (limit : ℕ) (f : List ℕ) → field limit f ≡ Blank → blank
 unfolding field
 blank-field limit f h = go (blank f) h
   where
-    go : (b : Bool) → pick b Blank (numberOf limit (digitsFrom 0 f) f) ≡ Blank → b ≡ true
+    go : (b : Bool) → cond b Blank (numberOf limit (digitsFrom 0 f) f) ≡ Blank → b ≡ true
     go true h = refl
     go false h = absurd (number-given limit (digitsFrom 0 f) f h)
 

@@ -2,19 +2,18 @@
 use Prim.Native.Nat.{ℕ, _+_, _-_, _*_, _≤_, _<_}
 use mathlib.Core.Path.{_≡_, refl, sym, _∙_}
 use mathlib.Core.List.{List}
-use mathlib.Core.Bool.{Bool, true, false, cond, _&&_}
+use mathlib.Core.Bool.{Bool, true, false, cond, _&&_, true≢false}
 use native.Mathlib.Omega.{arith}
 use borrow.Author.Tests.{eqb-true}
 use lib.Dec.{eqb}
 use lib.ListN.{length, getD, drop}
 use Rattle.text.specs.Implementation.Scanning.{valueFrom, plus, scan, Skips}
 use Rattle.text.specs.Implementation.Short.{Digit, Reads}
-use Rattle.text.proofs.ScanSound.{no-such}
 use Rattle.text.proofs.ScanTurns.{value-turn, value-end, digits-first, no-minus, scan-turn, scan-stop}
 
 pub both : (x y : Bool) → x && y ≡ true → (x ≡ true) × (y ≡ true)
 both true y h = (refl, h)
-both false y h = no-such h
+both false y h = absurd (true≢false (sym h))
 
 -- ---- four columns at once: their number in base 256 is that of spaces only if each is one
 pub four-skipped : (f : List ℕ) → 4 ≤ length f → ((i : ℕ) → getD f i 0 < 256) → getD f 0 0 + getD f 1 0 * 256 + getD f 2 0 * 65536 + getD f 3 0 * 16777216 ≡ 538976288 → Skips f 4
@@ -57,5 +56,5 @@ module _ (f : List ℕ) (l : 8 ≡ length f) where
       (omega (arith, a, b, c, d), begins f 4 _ (omega arith) k (g .0) (omega (arith, three r _ b c d (turn 4 0 r (omega arith) a refl))))
 
 pub first-digit : (blank : Bool) (a b : ℕ) → Digit 49 (cond blank b a) → blank ≡ false → 48 ≤ a
-first-digit true a b h e = no-such (sym e)
+first-digit true a b h e = absurd (true≢false (sym (sym e)))
 first-digit false a b h e = omega (arith, h)

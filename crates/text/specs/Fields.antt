@@ -59,23 +59,19 @@ unfoldable pub blank : List ℕ → Bool
 blank [] = true
 blank (x ∷ xs) = cond (eqb x letters.SPACE) (blank xs) false
 
-abbrev pub pick : Bool → Field → Field → Field
-pick true a b = a
-pick false a b = b
-
 -- RULES 6.3: the number whose text the columns are, its magnitude at most the limit: the digits say which it can only be
 unfoldable pub numberOf : ℕ → ℕ → List ℕ → Field
 numberOf limit n f =
-    pick (ltb limit n) Wrong
-    (pick (same f (text (pos n))) (Number (pos n))
-    (pick (same f (text (negℤ (pos n)))) (Number (negℤ (pos n))) Wrong))
+    cond (ltb limit n) Wrong
+    (cond (same f (text (pos n))) (Number (pos n))
+    (cond (same f (text (negℤ (pos n)))) (Number (negℤ (pos n))) Wrong))
 
 unfoldable pub field : ℕ → List ℕ → Field
-field limit f = pick (blank f) Blank (numberOf limit (digitsFrom 0 f) f)
+field limit f = cond (blank f) Blank (numberOf limit (digitsFrom 0 f) f)
 
 -- RULES 6.3: the eight columns from a place; wrong where there are fewer
 unfoldable pub fieldAt : ℕ → List ℕ → ℕ → Field
-fieldAt limit s at = pick (leb (at + 8) (length s)) (field limit (take 8 (drop at s))) Wrong
+fieldAt limit s at = cond (leb (at + 8) (length s)) (field limit (take 8 (drop at s))) Wrong
 
 -- ---- RULES 6.4: writing
 -- whether it was written, and what the slice then holds: only the eight places change, and none where they are not all there or the number

@@ -5,17 +5,14 @@ use lib.Ieee.{Float}
 use Rattle.emath.specs.Rectangles.{zeroF, maxF, width, height}
 use Rattle.emath.specs.declared.Rect.{Rect}
 use Rattle.emath.specs.declared.Vec2.{Vec2}
-use Rattle.grid.specs.Memories.{colWidth, rowHeight}
+use Rattle.grid.specs.Memories.{memoryOf, colWidth, rowHeight}
 use Rattle.grid.specs.declared.Memory.{Memory}
 use Rattle.grid.specs.declared.GridLayout.{GridLayout}
-use Rattle.grid.specs.declared.BareGrid.{BareGrid}
-use Rattle.grid.specs.declared.GridSpot.{GridSpot}
-
-abbrev pub memoryOf : List Float → ℕ → List Float → ℕ → Memory
-memoryOf ws cols hs rows = record { «col_widths» = ws; cols = cols; «row_heights» = hs; rows = rows }
+use Rattle.grid.specs.declared.GridSettings.{GridSettings}
+use Rattle.grid.specs.declared.GridState.{GridState}
 
 -- the previous widths and heights, then those of this pass
-abbrev pub gridOf : BareGrid → GridSpot → List Float → List Float → List Float → List Float → GridLayout
+abbrev pub gridOf : GridSettings → GridState → List Float → List Float → List Float → List Float → GridLayout
 gridOf g s pw ph ws hs = record {
   «is_first_frame» = g .«is_first_frame»;
   «prev_state» = memoryOf pw (g .«prev_cols») ph (g .«prev_rows»);
@@ -31,8 +28,8 @@ gridOf g s pw ph ws hs = record {
 }
 
 -- a grid taken apart
-abbrev pub bareOf : GridLayout → BareGrid
-bareOf g = record {
+abbrev pub settingsOf : GridLayout → GridSettings
+settingsOf g = record {
   «is_first_frame» = g .«is_first_frame»;
   «prev_cols» = g .«prev_state» .cols;
   «prev_rows» = g .«prev_state» .rows;
@@ -44,8 +41,8 @@ bareOf g = record {
   «max_cell_size» = g .«max_cell_size»;
 }
 
-abbrev pub spotOf : GridLayout → GridSpot
-spotOf g = record { cols = g .«curr_state» .cols; rows = g .«curr_state» .rows; col = g .col; row = g .row }
+abbrev pub stateOf : GridLayout → GridState
+stateOf g = record { cols = g .«curr_state» .cols; rows = g .«curr_state» .rows; col = g .col; row = g .row }
 
 -- what an advance leaves at its column and its row
 unfoldable pub notedSize : GridLayout → Rect → Vec2

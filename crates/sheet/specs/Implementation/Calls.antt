@@ -15,17 +15,17 @@ use Rattle.placer.specs.Operations.{checkedAdvanceCursor, checkedEndRow, checke
 use Rattle.placer.specs.Implementation.Lent.{placerOf}
 use Rattle.placer.specs.declared.Placer.{Placer}
 use Rattle.placer.specs.declared.PlacerAnswer.{PlacerAnswer}
-use Rattle.placer.specs.declared.BarePlacer.{BarePlacer}
-use Rattle.placer.specs.declared.Spot.{Spot}
+use Rattle.placer.specs.declared.PlacerSettings.{PlacerSettings}
+use Rattle.placer.specs.declared.PassState.{PassState}
 use Rattle.records.specs.declared.Step.{Step}
 use Rattle.records.specs.declared.Step.the-variants.{Widget, Space, RowHeight, MaxWidth, MaxHeight, MinWidth, MinHeight, RowEnd}
 use Rattle.records.specs.declared.Record.{Record}
 use Rattle.records.specs.declared.Record.the-variants as record-of
-use Rattle.sheet.specs.declared.SpotMoved.{SpotMoved}
+use Rattle.sheet.specs.declared.StepResult.{StepResult}
 use Rattle.sheet.specs.Pass.{cellOf, widgetStep}
 
 -- what a record gives: its number (0: none), the placer after it; how many W it is, and a W's rectangles
-pub record Moved : Type 0 where
+pub record CallResult : Type 0 where
   pub number : ℕ
   pub placer : Placer
   pub placed : ℕ
@@ -33,11 +33,11 @@ pub record Moved : Type 0 where
   pub widget : Rect
 
 -- with the arrays that are lent
-abbrev pub movedOf : BarePlacer → SpotMoved → List Float → List Float → List Float → List Float → Moved
-movedOf p m pw ph ws hs = record { number = m .number; placer = placerOf p (m .spot) pw ph ws hs; placed = m .placed; frame = m .frame; widget = m .widget }
+abbrev pub resultOf : PlacerSettings → StepResult → List Float → List Float → List Float → List Float → CallResult
+resultOf p m pw ph ws hs = record { number = m .number; placer = placerOf p (m .state) pw ph ws hs; placed = m .placed; frame = m .frame; widget = m .widget }
 
 -- a placer without fault, and arrays of their lengths
-pub record Ready (p : BarePlacer) (s : Spot) (pw ph ws hs : List Float) : Type 0 where
+pub record Ready (p : PlacerSettings) (s : PassState) (pw ph ws hs : List Float) : Type 0 where
   pub none : placerFault (placerOf p s pw ph ws hs) ≡ 0
   pub cols : length ws ≡ 32
   pub rows : length hs ≡ 128
@@ -50,7 +50,7 @@ unfoldable pub answeredNumber : Rect → Rect → ℕ → ℕ
 answeredNumber f w past = least (frameFault f ∷ outside (edgesFault w) ∷ outside past ∷ [])
 
 -- a W, and a record that is one call
-unfoldable pub placement : Placer → Vec2 → Vec2 → Moved
+unfoldable pub placement : Placer → Vec2 → Vec2 → CallResult
 placement p sp s = record {
   number = widgetStep sp p s (cellOf tick sp p s) .number;
   placer = widgetStep sp p s (cellOf tick sp p s) .placer;
@@ -59,20 +59,20 @@ placement p sp s = record {
   widget = cellOf tick sp p s .widget;
 }
 
-abbrev pub calledBy : PlacerAnswer → Moved
+abbrev pub calledBy : PlacerAnswer → CallResult
 calledBy a = record { number = a .number; placer = a .placer; placed = 0; frame = zeroRect; widget = zeroRect }
 
-unfoldable pub stepMoved : Placer → Vec2 → Step → Moved
-stepMoved p sp (Widget w h) = placement p sp (record { x = w; y = h })
-stepMoved p sp (Space a) = calledBy (checkedAdvanceCursor p a)
-stepMoved p sp (RowHeight h) = calledBy (checkedSetRowHeight p h)
-stepMoved p sp (MaxWidth w) = calledBy (checkedSetMaxWidth tick p w)
-stepMoved p sp (MaxHeight h) = calledBy (checkedSetMaxHeight tick p h)
-stepMoved p sp (MinWidth w) = calledBy (checkedSetMinWidth tick p w)
-stepMoved p sp (MinHeight h) = calledBy (checkedSetMinHeight tick p h)
-stepMoved p sp RowEnd = calledBy (checkedEndRow p sp)
+unfoldable pub stepResult : Placer → Vec2 → Step → CallResult
+stepResult p sp (Widget w h) = placement p sp (record { x = w; y = h })
+stepResult p sp (Space a) = calledBy (checkedAdvanceCursor p a)
+stepResult p sp (RowHeight h) = calledBy (checkedSetRowHeight p h)
+stepResult p sp (MaxWidth w) = calledBy (checkedSetMaxWidth tick p w)
+stepResult p sp (MaxHeight h) = calledBy (checkedSetMaxHeight tick p h)
+stepResult p sp (MinWidth w) = calledBy (checkedSetMinWidth tick p w)
+stepResult p sp (MinHeight h) = calledBy (checkedSetMinHeight tick p h)
+stepResult p sp RowEnd = calledBy (checkedEndRow p sp)
 
 -- a sheet that was checked has nothing but steps here
-unfoldable pub recordMoved : Placer → Vec2 → Record → Moved
-recordMoved p sp (record-of.Step st) = stepMoved p sp st
-recordMoved p sp record-of.Wrong = calledBy (record { number = number.malformed; placer = p })
+unfoldable pub recordResult : Placer → Vec2 → Record → CallResult
+recordResult p sp (record-of.Step st) = stepResult p sp st
+recordResult p sp record-of.Wrong = calledBy (record { number = number.malformed; placer = p })

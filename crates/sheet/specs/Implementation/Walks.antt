@@ -14,7 +14,7 @@ use Rattle.emath.specs.declared.Vec2.{Vec2}
 use Rattle.grid.specs.declared.Memory.{Memory}
 use Rattle.placer.specs.Implementation.Lent.{placerOf}
 use Rattle.placer.specs.declared.Placer.{Placer}
-use Rattle.placer.specs.declared.BarePlacer.{BarePlacer}
+use Rattle.placer.specs.declared.PlacerSettings.{PlacerSettings}
 use Rattle.records.specs.Sheets.{mostRecords, recordsFrom, widgets, checked}
 use Rattle.records.specs.Headings.{headingIn}
 use Rattle.records.specs.Implementation.SizeCache.{AreCached}
@@ -23,7 +23,7 @@ use Rattle.records.specs.declared.Step.{Step}
 use Rattle.records.specs.declared.Record.{Record}
 use Rattle.records.specs.declared.Record.the-variants as record-of
 use Rattle.records.specs.declared.Checked.the-variants as checked-of
-use Rattle.sheet.specs.declared.SpotRun.{SpotRun}
+use Rattle.sheet.specs.declared.RunResult.{RunResult}
 use Rattle.sheet.specs.declared.Passed.{Passed}
 use Rattle.sheet.specs.Pass.{Sheet, Cell, Ran, runFrom, outcomeOf}
 use Rattle.sheet.specs.Texts.{stepsOf}
@@ -43,8 +43,8 @@ pub record Run : Type 0 where
   pub placer : Placer
 
 -- with the arrays that are lent
-abbrev pub runOf : BarePlacer → SpotRun → List Float → List Float → List Float → List Float → Run
-runOf p r pw ph ws hs = record { number = r .number; at = r .at; placer = placerOf p (r .spot) pw ph ws hs }
+abbrev pub runOf : PlacerSettings → RunResult → List Float → List Float → List Float → List Float → Run
+runOf p r pw ph ws hs = record { number = r .number; at = r .at; placer = placerOf p (r .state) pw ph ws hs }
 
 -- the rule's run, with the rectangles cs
 abbrev pub ranOf : List Cell → Run → Ran

@@ -7,7 +7,6 @@ use lib.IntN.{pos, negℤ}
 use lib.Dec.{leb, ltb, eqb}
 use lib.ListN.{length, drop, getD}
 use Rattle.text.specs.Letters as letters
-use Rattle.text.specs.Fields.{pick}
 use Rattle.text.specs.declared.Field.{Field}
 use Rattle.text.specs.declared.Field.the-variants.{Blank, Number, Wrong}
 
@@ -34,18 +33,18 @@ unfoldable pub fits : ℕ → ℕ → Bool
 fits limit n = cond (eqb n none) false (leb n limit)
 
 unfoldable pub plus : ℕ → ℕ → Field
-plus limit n = pick (fits limit n) (Number (pos n)) Wrong
+plus limit n = cond (fits limit n) (Number (pos n)) Wrong
 
 unfoldable pub minus : ℕ → ℕ → Field
-minus limit n = pick (eqb n 0) Wrong (pick (fits limit n) (Number (negℤ (pos n))) Wrong)
+minus limit n = cond (eqb n 0) Wrong (cond (fits limit n) (Number (negℤ (pos n))) Wrong)
 
 unfoldable pub signed : ℕ → List ℕ → Field
 signed limit [] = Wrong
-signed limit (b ∷ s) = pick (eqb b letters.MINUS) (minus limit (unsigned s)) (plus limit (unsigned (b ∷ s)))
+signed limit (b ∷ s) = cond (eqb b letters.MINUS) (minus limit (unsigned s)) (plus limit (unsigned (b ∷ s)))
 
 unfoldable pub scan : ℕ → List ℕ → Field
 scan limit [] = Blank
-scan limit (b ∷ s) = pick (eqb b letters.SPACE) (scan limit s) (signed limit (b ∷ s))
+scan limit (b ∷ s) = cond (eqb b letters.SPACE) (scan limit s) (signed limit (b ∷ s))
 
 -- the columns before r are spaces: what is left is scanned as all are
 abbrev pub Skips : List ℕ → ℕ → Type 0

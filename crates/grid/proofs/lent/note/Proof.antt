@@ -8,7 +8,7 @@ use Rattle.grid.proofs.lent.note.Tie as tie
 
 returns : tie.Need-returns
 unfolding advance advanced noted setMinColWidth setMinRowHeight
-returns c pw ph cursor = let s = c .before .before .before .before .before .before .before .before .before .before .before .before .before .before .before .before .args .spot in rw (is-lt (s .col) 32 (c .before .before .before .before .before .before .before .before .before .before .before .before .before .before .before .before .pre .0 .0), is-lt (s .row) 128 (c .before .before .before .before .before .before .before .before .before .before .before .before .before .before .before .before .pre .0 .1), c .before .before .before .before .raise2 .ensures, c .before .before .before .before .before .max2 .ensures, c .before .before .before .before .before .before .height .ensures, c .before .before .before .before .before .before .before .before .before .before .raise .ensures, c .before .before .before .before .before .before .before .before .before .before .before .max .ensures, c .before .before .before .before .before .before .before .before .before .before .before .before .width .ensures, c .raised-count2 .ensures, c .before .raised-count .ensures)
+returns c pw ph cursor = let s = c .before .before .before .before .before .before .before .before .before .before .before .before .before .before .before .before .args .state in rw (is-lt (s .col) 32 (c .before .before .before .before .before .before .before .before .before .before .before .before .before .before .before .before .pre .0 .0), is-lt (s .row) 128 (c .before .before .before .before .before .before .before .before .before .before .before .before .before .before .before .before .pre .0 .1), c .before .before .before .before .raise2 .ensures, c .before .before .before .before .before .max2 .ensures, c .before .before .before .before .before .before .height .ensures, c .before .before .before .before .before .before .before .before .before .before .raise .ensures, c .before .before .before .before .before .before .before .before .before .before .before .max .ensures, c .before .before .before .before .before .before .before .before .before .before .before .before .width .ensures, c .raised-count2 .ensures, c .before .raised-count .ensures)
 
 pub note-spec : {M : Type 1} → statement M
 note-spec = tie.close (tie.spec (λ c κs. search needs) (λ c κs. search needs) (λ c κs. search needs) (λ c κs. search needs) (λ c κs. search needs) (λ c κs. search needs) (λ c. search needs) (λ c κs. search needs) (λ c. search needs) (λ c κs. search needs) (λ c. search needs) (λ c. search needs) (λ c. search needs) returns)

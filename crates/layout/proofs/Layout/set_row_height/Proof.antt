@@ -6,7 +6,7 @@ use Rattle.layout.proofs.Layout.set_row_height.Tie as tie
 
 returns : tie.Need-returns
 unfolding checkedSetRowHeight least
-returns c = rw (c .moved-region .ensures, c .before .lesser-number .ensures, c .before .before .length-fault .ensures, c .before .before .before .region-fault .ensures, c .before .before .before .before .set-row-height .ensures)
+returns c = rw (c .changed-region .ensures, c .before .lesser-number .ensures, c .before .before .length-fault .ensures, c .before .before .before .region-fault .ensures, c .before .before .before .before .set-row-height .ensures)
 
 pub set-row-height-spec : {M : Type 1} → statement M
 set-row-height-spec = tie.close (tie.spec (λ c κs. tt) (λ c κs. tt) (λ c κs. tt) (λ c κs. tt) (λ c κs. tt) returns)

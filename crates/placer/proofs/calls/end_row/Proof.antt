@@ -14,7 +14,7 @@ returns c pw ph ws e = let a = c .before .before .before .before .before .before
 
 returns-2 : tie.Need-returns-2
 unfolding checkedEndRow endRowFault least
-returns-2 c pw ph ws e = let a = c .before .before .before .before .before .before .before .before .args in let p = placerOf (a .placer) (a .spot) pw ph ws (a .heights .now) in rw (row-ended-plain p (a .item-spacing) (c .before .before .if1 .left), ← c .before .before .before .before .before .pair-fault .ensures, ← c .before .before .before .before .row-fault .ensures, ← c .before .before .before .lesser-number .ensures, ← c .before .end-row .ensures) (c .settled .ensures pw ph ws (a .heights .now) e)
+returns-2 c pw ph ws e = let a = c .before .before .before .before .before .before .before .before .args in let p = placerOf (a .placer) (a .state) pw ph ws (a .heights .now) in rw (row-ended-plain p (a .item-spacing) (c .before .before .if1 .left), ← c .before .before .before .before .before .pair-fault .ensures, ← c .before .before .before .before .row-fault .ensures, ← c .before .before .before .lesser-number .ensures, ← c .before .end-row .ensures) (c .settled .ensures pw ph ws (a .heights .now) e)
 
 pub end-row-spec : {M : Type 1} → statement M
 end-row-spec = tie.close (tie.spec (λ c κs. search needs) (λ c κs. search needs) (λ c κs. search needs) (λ c κs. search needs) returns (λ c κs. search needs) (λ c κs. search needs) returns-2)

@@ -6,7 +6,7 @@ use Rattle.placer.proofs.lent.region_past.Statement.{statement}
 use Rattle.placer.proofs.lent.region_past.Tie as tie
 
 returns : tie.Need-returns
-returns c ph ws hs = let a = c .before .before .before .before .args in rw (c .expand-to-include-rect .ensures, c .before .with-cursor .ensures, c .before .before .cursor-past .ensures ph ws hs) (region-past (placerOf (a .placer) (a .spot) (a .prev-widths .now) ph ws hs) (a .frame-rect) (a .widget-rect) (a .item-spacing))
+returns c ph ws hs = let a = c .before .before .before .before .args in rw (c .expand-to-include-rect .ensures, c .before .with-cursor .ensures, c .before .before .cursor-past .ensures ph ws hs) (region-past (placerOf (a .placer) (a .state) (a .prev-widths .now) ph ws hs) (a .frame-rect) (a .widget-rect) (a .item-spacing))
 
 pub region-past-spec : {M : Type 1} → statement M
 region-past-spec = tie.close (tie.spec (λ c κs. search needs) (λ c κs. search needs) (λ c κs. search needs) returns)

@@ -75,7 +75,4 @@ returns-5 c =
     (ended-answer _ _ (sym (c .before .before .before .before .before .before .heading-fault .ensures) ∙ c .before .before .before .before .before .if1 .left) _ _ _ _ (l .inv .3) (c .before .if4 .left) _ (c .ended2 .ensures), cached-ended _ _ _ _ _ _ (l .inv .5) (c .before .if4 .left))
 
 pub check-caching-spec : {M : Type 1} → statement M
-check-caching-spec =
-    tie.close
-    (tie.spec Inv-loop μ-loop (λ c κs. search needs) returns (λ c κs. search needs) (λ c. search needs) loop-holds (λ c κs. search needs) same-length returns-2 (λ c κs. search needs) (λ c κs. search needs) (λ c. search needs) store-requires (λ c κs. search needs) (λ c. search needs) (λ c κs. search needs) (λ c. search needs) (λ c. search needs) (λ c. search needs) loop-again
-    (λ c. search needs) same-length-2 returns-3 (λ c. search needs) same-length-3 returns-4 (λ c κs. search needs) same-length-4 returns-5)
+check-caching-spec = tie.close (tie.spec Inv-loop μ-loop (λ c κs. search needs) returns (λ c κs. search needs) (λ c. search needs) loop-holds (λ c κs. search needs) same-length returns-2 (λ c κs. search needs) (λ c κs. search needs) (λ c. search needs) store-requires (λ c κs. search needs) (λ c. search needs) (λ c κs. search needs) (λ c. search needs) (λ c. search needs) (λ c. search needs) loop-again (λ c. search needs) same-length-2 returns-3 (λ c. search needs) same-length-3 returns-4 (λ c κs. search needs) same-length-4 returns-5)

@@ -13,7 +13,7 @@ returns c =
     let ws = a .widths .now in
     let hs = a .heights .now in
     let n = rw (c .before .before .answered-number .ensures, c .before .before .before .given-number .ensures pw ph ws hs, c .before .before .before .before .past-fault .ensures pw ph, c .before .before .before .before .before .before .before .region-past .ensures ph ws hs) at (c .before .or-else .ensures) in
-    placement-refused (placerOf (a .placer) (a .spot) pw ph ws hs) (a .spacing) (a .size) (c .before .before .before .before .before .before .before .before .before .before .before .before .before .before .pre .none) (c .before .before .before .before .before .before .before .before .before .before .before .before .before .before .pre .cols) (c .before .before .before .before .before .before .before .before .before .before .before .before .before .before .pre .rows) _ _ (c .before .before .before .before .before .before .before .before .before .next-space .ensures ws hs) (c .before .before .before .before .before .before .before .before .justify-and-align .ensures pw ph ws hs) _ n (c .if1 .taken)
+    placement-refused (placerOf (a .placer) (a .state) pw ph ws hs) (a .spacing) (a .size) (c .before .before .before .before .before .before .before .before .before .before .before .before .before .before .pre .none) (c .before .before .before .before .before .before .before .before .before .before .before .before .before .before .pre .cols) (c .before .before .before .before .before .before .before .before .before .before .before .before .before .before .pre .rows) _ _ (c .before .before .before .before .before .before .before .before .before .next-space .ensures ws hs) (c .before .before .before .before .before .before .before .before .justify-and-align .ensures pw ph ws hs) _ n (c .if1 .taken)
 
 advance-requires : tie.Need-advance-requires
 advance-requires c κs = (c .before .before .before .before .before .before .before .before .before .before .before .before .before .before .before .before .pre .cols, c .before .before .before .before .before .before .before .before .before .before .before .before .before .before .before .before .pre .rows)
@@ -27,7 +27,7 @@ returns-2 c =
     let hs = a .heights .now in
     let r = c .before .before .before .before .before .before .before .before .before .before .before .before .before .before .region-past .ensures ph ws hs in
     let n = rw (c .before .before .before .before .before .before .before .before .before .answered-number .ensures, c .before .before .before .before .before .before .before .before .before .before .given-number .ensures pw ph ws hs, c .before .before .before .before .before .before .before .before .before .before .before .past-fault .ensures pw ph, r) at (c .before .before .before .before .before .before .before .before .or-else .ensures) in
-    placement-accepted (placerOf (a .placer) (a .spot) pw ph ws hs) (a .spacing) (a .size) (c .before .before .before .before .before .before .before .before .before .before .before .before .before .before .before .before .before .before .before .before .before .pre .none) (c .before .before .before .before .before .before .before .before .before .before .before .before .before .before .before .before .before .before .before .before .before .pre .cols) (c .before .before .before .before .before .before .before .before .before .before .before .before .before .before .before .before .before .before .before .before .before .pre .rows) _ _ (c .before .before .before .before .before .before .before .before .before .before .before .before .before .before .before .before .next-space .ensures ws hs) (c .before .before .before .before .before .before .before .before .before .before .before .before .before .before .before .justify-and-align .ensures pw ph ws hs) _ n _ (c .before .before .before .before .before .before .before .if1 .left) (c .before .before .before .before .advance .ensures pw ph _ (a .spacing) r)
+    placement-accepted (placerOf (a .placer) (a .state) pw ph ws hs) (a .spacing) (a .size) (c .before .before .before .before .before .before .before .before .before .before .before .before .before .before .before .before .before .before .before .before .before .pre .none) (c .before .before .before .before .before .before .before .before .before .before .before .before .before .before .before .before .before .before .before .before .before .pre .cols) (c .before .before .before .before .before .before .before .before .before .before .before .before .before .before .before .before .before .before .before .before .before .pre .rows) _ _ (c .before .before .before .before .before .before .before .before .before .before .before .before .before .before .before .before .next-space .ensures ws hs) (c .before .before .before .before .before .before .before .before .before .before .before .before .before .before .before .justify-and-align .ensures pw ph ws hs) _ n _ (c .before .before .before .before .before .before .before .if1 .left) (c .before .before .before .before .advance .ensures pw ph _ (a .spacing) r)
 
 pub place-spec : {M : Type 1} → statement M
 place-spec = tie.close (tie.spec (λ c κs. search needs) (λ c κs. search needs) (λ c κs. search needs) (λ c κs. search needs) (λ c κs. search needs) (λ c κs. search needs) (λ c κs. search needs) (λ c. search needs) (λ c. search needs) returns advance-requires (λ c. search needs) (λ c. search needs) returns-2)

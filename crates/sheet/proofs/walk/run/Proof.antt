@@ -9,10 +9,10 @@ use Rattle.records.specs.declared.Record.{Record}
 use Rattle.records.specs.Implementation.SizeCache.{AreCached}
 use Rattle.records.proofs.Places.{next-within}
 use Rattle.records.proofs.SizeCache.{cached-here, still-cached}
-use Rattle.sheet.specs.Implementation.Calls.{recordMoved, Ready}
+use Rattle.sheet.specs.Implementation.Calls.{recordResult, Ready}
 use Rattle.sheet.proofs.Walks.{walked}
 use Rattle.sheet.proofs.WalkedRuns.{as-walked}
-use Rattle.sheet.proofs.Walking.{walk-ends, walk-is-full, walk-stops, walk-goes-on, room-left, moved-few, moved-in-ticks, moved-unfaulted}
+use Rattle.sheet.proofs.Walking.{walk-ends, walk-is-full, walk-stops, walk-goes-on, room-left, result-few, result-in-ticks, moved-unfaulted}
 use borrow.Author.Needs.{needs}
 use Rattle.sheet.proofs.walk.run.Statement.{statement}
 use Rattle.sheet.proofs.walk.run.Tie as tie
@@ -46,10 +46,10 @@ record-moved-requires : tie.Need-record-moved-requires Inv-loop μ-loop
 record-moved-requires c κs = c .before .before .before .before .before .loop .inv .4
 
 same-length-4 : tie.Need-same-length-4 Inv-loop μ-loop
-same-length-4 c = c .before .before .before .before .before .before .record-moved .kept .1 .1 .1 .1 .0 ∙ c .before .before .before .before .before .before .before .before .before .before .before .before .loop .inv .4 .cols ∙ sym (c .before .before .before .before .before .before .before .before .before .before .before .before .before .before .before .before .before .before .before .pre .0 .cols)
+same-length-4 c = c .before .before .before .before .before .before .run-record .kept .1 .1 .1 .1 .0 ∙ c .before .before .before .before .before .before .before .before .before .before .before .before .loop .inv .4 .cols ∙ sym (c .before .before .before .before .before .before .before .before .before .before .before .before .before .before .before .before .before .before .before .pre .0 .cols)
 
 same-length-5 : tie.Need-same-length-5 Inv-loop μ-loop
-same-length-5 c = c .before .before .before .before .before .before .record-moved .kept .1 .1 .1 .1 .1 .0 ∙ c .before .before .before .before .before .before .before .before .before .before .before .before .loop .inv .4 .rows ∙ sym (c .before .before .before .before .before .before .before .before .before .before .before .before .before .before .before .before .before .before .before .pre .0 .rows)
+same-length-5 c = c .before .before .before .before .before .before .run-record .kept .1 .1 .1 .1 .1 .0 ∙ c .before .before .before .before .before .before .before .before .before .before .before .before .loop .inv .4 .rows ∙ sym (c .before .before .before .before .before .before .before .before .before .before .before .before .before .before .before .before .before .before .before .pre .0 .rows)
 
 returns-2 : tie.Need-returns-2 Inv-loop μ-loop
 returns-2 c =
@@ -58,7 +58,7 @@ returns-2 c =
     let pw = a .prev-widths .now in
     let ph = a .prev-heights .now in
     let p = placerOf (a .placer) (l .s) pw ph (l .widths) (l .heights) in
-    let em = c .before .before .before .before .before .before .record-moved .ensures ∙ ap (λ (x : Record). recordMoved p (a .spacing) x) (c .before .before .before .before .before .before .before .cached-record .ensures) in
+    let em = c .before .before .before .before .before .before .run-record .ensures ∙ ap (λ (x : Record). recordResult p (a .spacing) x) (c .before .before .before .before .before .before .before .cached-record .ensures) in
     as-walked _ _ _ _ _ _ _ _ (c .before .before .before .before .before .before .before .before .before .before .before .before .before .before .before .before .before .before .before .pre .1 .1 .0) (walk-stops (a .text .now) (a .spacing) (l .left) (l .n) (l .at) (l .w) p (l .out) _ (l .inv .5) (c .before .before .before .before .before .before .before .before .before .before .before .loop-test .taken) (c .before .before .before .before .before .before .before .before .before .before .if1 .left) _ em (c .if2 .taken))
 
 put-requires : tie.Need-put-requires Inv-loop μ-loop
@@ -68,9 +68,9 @@ put-requires c κs =
     let pw = a .prev-widths .now in
     let ph = a .prev-heights .now in
     let p = placerOf (a .placer) (l .s) pw ph (l .widths) (l .heights) in
-    let em = c .before .before .before .before .before .before .before .record-moved .ensures ∙ ap (λ (x : Record). recordMoved p (a .spacing) x) (c .before .before .before .before .before .before .before .before .cached-record .ensures) in
+    let em = c .before .before .before .before .before .before .before .run-record .ensures ∙ ap (λ (x : Record). recordResult p (a .spacing) x) (c .before .before .before .before .before .before .before .before .cached-record .ensures) in
     let r = room-left (a .text .now) (a .spacing) (l .left) (l .n) (l .at) (l .w) p (l .out) _ (l .inv .5) (c .before .before .before .before .before .before .before .before .before .before .before .before .loop-test .taken) (c .before .before .before .before .before .before .before .before .before .before .before .if1 .left) _ em (l .inv .3) in
-    ((omega (arith, r), moved-few (a .text .now) (a .spacing) (l .left) (l .n) (l .at) (l .w) p (l .out) _ (l .inv .5) (c .before .before .before .before .before .before .before .before .before .before .before .before .loop-test .taken) (c .before .before .before .before .before .before .before .before .before .before .before .if1 .left) _ em), moved-in-ticks (a .text .now) (a .spacing) (l .left) (l .n) (l .at) (l .w) p (l .out) _ (l .inv .5) (c .before .before .before .before .before .before .before .before .before .before .before .before .loop-test .taken) (c .before .before .before .before .before .before .before .before .before .before .before .if1 .left) _ em (c .before .if2 .left))
+    ((omega (arith, r), result-few (a .text .now) (a .spacing) (l .left) (l .n) (l .at) (l .w) p (l .out) _ (l .inv .5) (c .before .before .before .before .before .before .before .before .before .before .before .before .loop-test .taken) (c .before .before .before .before .before .before .before .before .before .before .before .if1 .left) _ em), result-in-ticks (a .text .now) (a .spacing) (l .left) (l .n) (l .at) (l .w) p (l .out) _ (l .inv .5) (c .before .before .before .before .before .before .before .before .before .before .before .before .loop-test .taken) (c .before .before .before .before .before .before .before .before .before .before .before .if1 .left) _ em (c .before .if2 .left))
 
 add-n : tie.Need-add-n Inv-loop μ-loop
 add-n c = search (needs, c .before .before .before .before .before .before .before .before .before .before .before .before .before .before .before .before .loop .inv .2, c .before .before .before .before .before .before .before .before .before .before .before .before .before .before .before .loop-test .taken, c .before .before .before .before .before .before .before .before .before .before .before .before .before .before .before .before .before .before .before .before .before .before .before .pre .1 .0 .1)
@@ -88,12 +88,12 @@ loop-again c =
     let pw = a .prev-widths .now in
     let ph = a .prev-heights .now in
     let p = placerOf (a .placer) (l .s) pw ph (l .widths) (l .heights) in
-    let em = c .before .before .before .before .before .before .before .before .before .before .record-moved .ensures ∙ ap (λ (x : Record). recordMoved p (a .spacing) x) (c .before .before .before .before .before .before .before .before .before .before .before .cached-record .ensures) in
+    let em = c .before .before .before .before .before .before .before .before .before .before .run-record .ensures ∙ ap (λ (x : Record). recordResult p (a .spacing) x) (c .before .before .before .before .before .before .before .before .before .before .before .cached-record .ensures) in
     let e = c .next-record .ensures in
     let u = c .before .before .put .ensures in
     let k = c .before .before .put .kept .0 in
     let r = room-left (a .text .now) (a .spacing) (l .left) (l .n) (l .at) (l .w) p (l .out) _ (l .inv .5) (c .before .before .before .before .before .before .before .before .before .before .before .before .before .before .before .loop-test .taken) (c .before .before .before .before .before .before .before .before .before .before .before .before .before .before .if1 .left) _ em (l .inv .3) in
-    (k ∙ l .inv .0, rw e (next-within (a .text .now) (l .at)), omega (arith, l .inv .2, c .before .before .before .before .before .before .before .before .before .before .before .before .before .before .before .loop-test .taken), rw (e, u .0) (omega (arith, r, k)), record { none = moved-unfaulted (a .text .now) (a .spacing) (l .left) (l .n) (l .at) (l .w) p (l .out) _ (l .inv .5) (c .before .before .before .before .before .before .before .before .before .before .before .before .before .before .before .loop-test .taken) (c .before .before .before .before .before .before .before .before .before .before .before .before .before .before .if1 .left) _ em (c .before .before .before .before .if2 .left); cols = c .before .before .before .before .before .before .before .before .before .before .record-moved .kept .1 .1 .1 .1 .0 ∙ l .inv .4 .cols; rows = c .before .before .before .before .before .before .before .before .before .before .record-moved .kept .1 .1 .1 .1 .1 .0 ∙ l .inv .4 .rows }, rw (e, u .0, u .1) (walk-goes-on (a .text .now) (a .spacing) (l .left) (l .n) (l .at) (l .w) p (l .out) _ (l .inv .5) (c .before .before .before .before .before .before .before .before .before .before .before .before .before .before .before .loop-test .taken) (c .before .before .before .before .before .before .before .before .before .before .before .before .before .before .if1 .left) _ em (c .before .before .before .before .if2 .left)), rw e (still-cached (a .text .now) (a .sizes .now) (l .at) (l .n) (l .left) (l .inv .6)))
+    (k ∙ l .inv .0, rw e (next-within (a .text .now) (l .at)), omega (arith, l .inv .2, c .before .before .before .before .before .before .before .before .before .before .before .before .before .before .before .loop-test .taken), rw (e, u .0) (omega (arith, r, k)), record { none = moved-unfaulted (a .text .now) (a .spacing) (l .left) (l .n) (l .at) (l .w) p (l .out) _ (l .inv .5) (c .before .before .before .before .before .before .before .before .before .before .before .before .before .before .before .loop-test .taken) (c .before .before .before .before .before .before .before .before .before .before .before .before .before .before .if1 .left) _ em (c .before .before .before .before .if2 .left); cols = c .before .before .before .before .before .before .before .before .before .before .run-record .kept .1 .1 .1 .1 .0 ∙ l .inv .4 .cols; rows = c .before .before .before .before .before .before .before .before .before .before .run-record .kept .1 .1 .1 .1 .1 .0 ∙ l .inv .4 .rows }, rw (e, u .0, u .1) (walk-goes-on (a .text .now) (a .spacing) (l .left) (l .n) (l .at) (l .w) p (l .out) _ (l .inv .5) (c .before .before .before .before .before .before .before .before .before .before .before .before .before .before .before .loop-test .taken) (c .before .before .before .before .before .before .before .before .before .before .before .before .before .before .if1 .left) _ em (c .before .before .before .before .if2 .left)), rw e (still-cached (a .text .now) (a .sizes .now) (l .at) (l .n) (l .left) (l .inv .6)))
 
 returns-3 : tie.Need-returns-3 Inv-loop μ-loop
 returns-3 c =

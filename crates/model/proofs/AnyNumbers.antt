@@ -1,0 +1,13 @@
+-- The engine on any numbers, and that it follows the passes in whole steps where the numbers are exact.
+pub mod Passes
+pub mod Engine
+pub mod Exact
+pub mod Embedding
+mod AcceptedSteps
+mod GridSteps
+mod GridRuns
+pub mod Recorded
+mod Growth
+pub mod GridPasses
+pub mod StripPasses
+pub mod Arrays

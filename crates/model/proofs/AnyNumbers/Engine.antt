@@ -1,0 +1,238 @@
+-- The engine: passes over strips and grids on any numbers, as layout.rs and grid.rs state them, with the least tests under which they follow
+-- the passes in whole steps. `also` stands for whatever else a pass turns back. Assumes nothing.
+use mathlib.Core.List.{List, [], _∷_}
+use mathlib.Core.Bool.{Bool, true, false, cond}
+use Prim.Native.Nat.{ℕ, zero, suc}
+use lib.ListN.{getD}
+use Rattle.emath.specs.declared.Align.{Align}
+use Rattle.emath.specs.declared.Align.the-variants.{Min, Center, Max}
+use Rattle.model.proofs.AnyNumbers.Passes.{Answer, accepted, guard, on, passes}
+
+-- the numbers: zero, the lesser and the greater, half, to whole steps, "within the limit"
+pub record Ops (F : Type 0) : Type 0 where
+  pub none : F
+  pub add : F → F → F
+  pub sub : F → F → F
+  pub low : F → F → F
+  pub high : F → F → F
+  pub half : F → F
+  pub round : F → F
+  pub inside : F → Bool
+  pub le : F → F → Bool
+
+pub record Edges (F : Type 0) : Type 0 where
+  pub left : F
+  pub top : F
+  pub right : F
+  pub bottom : F
+
+-- min_rect with a frame
+unfoldable pub united : {F : Type 0} → Ops F → Edges F → Edges F → Edges F
+united o p f = record { left = o .low (p .left) (f .left); top = o .low (p .top) (f .top); right = o .high (p .right) (f .right); bottom = o .high (p .bottom) (f .bottom) }
+
+-- a record: a control, or a row's end
+pub data Move (F : Type 0) : Type 0 where
+  place : F → F → Move F
+  finish : Move F
+
+-- what a pass gives: the frames and the widgets in the order of the controls, and the last state
+pub record Out (F S : Type 0) : Type 0 where
+  pub frames : List (Edges F)
+  pub widgets : List (Edges F)
+  pub last : S
+
+abbrev pub more : {F S : Type 0} → Edges F → Edges F → Out F S → Out F S
+more f v x = record { frames = f ∷ x .frames; widgets = v ∷ x .widgets; last = x .last }
+
+abbrev pub put : {F S : Type 0} → Edges F → Edges F → Answer (Out F S) → Answer (Out F S)
+put f v a = on a (λ x. accepted (more f v x))
+
+-- ---- grids
+
+-- where a pass is, what it has met, and min_rect
+pub record EngineState (F : Type 0) : Type 0 where
+  pub col : ℕ
+  pub row : ℕ
+  pub x : F
+  pub y : F
+  pub cols : List F
+  pub rows : List F
+  pub plate : Edges F
+
+-- what a pass is given: initial_available's left edge, the minimum cell, the spacing, the memory
+pub record Given (F : Type 0) : Type 0 where
+  pub sizing : Bool
+  pub left : F
+  pub minW : F
+  pub minH : F
+  pub gapX : F
+  pub gapY : F
+  pub cols : List F
+  pub rows : List F
+
+module _ {F : Type 0} (o : Ops F) where
+  -- set_min_col_width, set_min_row_height
+  unfoldable pub raise : List F → ℕ → F → List F
+  raise [] zero v = o .high (o .none) v ∷ []
+  raise [] (suc i) v = o .none ∷ raise [] i v
+  raise (x ∷ l) zero v = o .high x v ∷ l
+  raise (x ∷ l) (suc i) v = x ∷ raise l i v
+
+  -- align_size_within_rect, LEFT_CENTER
+  unfoldable pub widget : Edges F → F → F → Edges F
+  widget f w h = record {
+    left = o .round (f .left);
+    top = o .round (o .sub (o .half (o .add (f .top) (f .bottom))) (o .half h));
+    right = o .round (o .add (f .left) w);
+    bottom = o .round (o .add (o .sub (o .half (o .add (f .top) (f .bottom))) (o .half h)) h);
+  }
+
+  module _ (g : Given F) where
+    -- next_cell
+    unfoldable pub nextCell : EngineState F → F → F → Edges F
+    nextCell s w h = record {
+      left = o .round (s .x);
+      top = o .round (s .y);
+      right = o .round (o .add (s .x) (o .high w (cond (g .sizing) (o .none) (getD (g .cols) (s .col) (o .none)))));
+      bottom = o .round (o .add (s .y) (o .high h (getD (g .rows) (s .row) (g .minH))));
+    }
+
+    -- advance, and expand_to_include_rect
+    unfoldable pub advance : EngineState F → Edges F → Edges F → EngineState F
+    advance s f v = record {
+      col = suc (s .col);
+      row = s .row;
+      x = o .add (s .x) (o .add (getD (g .cols) (s .col) (g .minW)) (g .gapX));
+      y = s .y;
+      cols = raise (s .cols) (s .col) (o .high (o .sub (v .right) (v .left)) (g .minW));
+      rows = raise (s .rows) (s .row) (o .high (o .sub (v .bottom) (v .top)) (g .minH));
+      plate = united o (s .plate) f;
+    }
+
+    -- end_row
+    unfoldable pub endRow : EngineState F → EngineState F
+    endRow s = record {
+      col = 0;
+      row = suc (s .row);
+      x = g .left;
+      y = o .add (o .add (s .y) (g .gapY)) (getD (s .rows) (s .row) (g .minH));
+      cols = s .cols;
+      rows = s .rows;
+      plate = s .plate;
+    }
+
+    -- the records from a state on; n is the number of the first
+    unfoldable pub runF : (EngineState F → Move F → Bool) → EngineState F → ℕ → List (Move F) → Answer (Out F (EngineState F))
+    runF also s n [] = accepted (record { frames = []; widgets = []; last = s })
+    runF also s n (place w h ∷ l) =
+        guard 8 n (also s (place w h))
+        (let f = nextCell s w h in
+        guard 9 n (o .inside (f .right)) (guard 9 n (o .inside (f .bottom))
+        (let v = widget f w h in
+        let t = advance s f v in guard 9 n (o .inside (t .x)) (put f v (runF also t (suc n) l)))))
+    runF also s n (finish ∷ l) = guard 8 n (also s finish) (guard 9 n (o .inside (endRow s .y)) (runF also (endRow s) (suc n) l))
+
+-- what H and G say of a grid: max_rect's corner, the minimum cell, the spacing, the start row, and the point where min_rect starts
+pub record HeadF (F : Type 0) : Type 0 where
+  pub left : F
+  pub top : F
+  pub minW : F
+  pub minH : F
+  pub gapX : F
+  pub gapY : F
+  pub start : ℕ
+  pub seedX : F
+  pub seedY : F
+
+pub record MemF (F : Type 0) : Type 0 where
+  pub cols : List F
+  pub rows : List F
+
+abbrev pub memoryF : {F : Type 0} → Out F (EngineState F) → MemF F
+memoryF r = record { cols = r .last .cols; rows = r .last .rows }
+
+abbrev pub givenF : {F : Type 0} → HeadF F → Bool → MemF F → Given F
+givenF h b m = record { sizing = b; left = h .left; minW = h .minW; minH = h .minH; gapX = h .gapX; gapY = h .gapY; cols = m .cols; rows = m .rows }
+
+abbrev pub beginF : {F : Type 0} → HeadF F → EngineState F
+beginF h = record {
+  col = 0;
+  row = h .start;
+  x = h .left;
+  y = h .top;
+  cols = [];
+  rows = [];
+  plate = record { left = h .seedX; top = h .seedY; right = h .seedX; bottom = h .seedY };
+}
+
+module _ {F : Type 0} (o : Ops F) (also : Given F → EngineState F → Move F → Bool) (h : HeadF F) (l : List (Move F)) where
+  -- one pass, sizing or not, with a memory; H and G are records 1 and 2
+  unfoldable pub passF : Bool → MemF F → Answer (Out F (EngineState F))
+  passF b m = runF o (givenF h b m) (also (givenF h b m)) (beginF h) 3 l
+
+  -- the first is sizing, and without memory; the later ones have a memory; pass number n, from 0, has the memory of the one before it
+  abbrev pub firstF : Answer (Out F (EngineState F))
+  firstF = passF true (record { cols = []; rows = [] })
+
+  abbrev pub laterF : MemF F → Answer (Out F (EngineState F))
+  laterF m = passF false m
+
+  abbrev pub nthF : ℕ → Answer (Out F (EngineState F))
+  nthF n = passes memoryF laterF firstF n
+
+-- ---- strips: a frame from the cursor on, as large as the control; the control aligned in it; the cursor behind the control
+
+pub record Cursor (F : Type 0) : Type 0 where
+  pub x : F
+  pub plate : Edges F
+
+-- what H says of a strip: the main align, max_rect's corner, where min_rect starts too, and the spacing across
+pub record StripHead (F : Type 0) : Type 0 where
+  pub align : Align
+  pub left : F
+  pub top : F
+  pub gap : F
+
+module _ {F : Type 0} (o : Ops F) where
+  -- align of a size z between two edges
+  unfoldable pub lowOf : Align → F → F → F → F
+  lowOf Min a b z = a
+  lowOf Center a b z = o .sub (o .half (o .add a b)) (o .half z)
+  lowOf Max a b z = o .sub b z
+
+  unfoldable pub highOf : Align → F → F → F → F
+  highOf Min a b z = o .add a z
+  highOf Center a b z = o .add (o .sub (o .half (o .add a b)) (o .half z)) z
+  highOf Max a b z = b
+
+  module _ (h : StripHead F) where
+    unfoldable pub stripFrame : Cursor F → F → F → Edges F
+    stripFrame s w z = record { left = o .round (s .x); top = o .round (h .top); right = o .round (o .add (s .x) w); bottom = o .round (o .add (h .top) z) }
+
+    unfoldable pub stripWidget : Edges F → F → F → Edges F
+    stripWidget f w z = record {
+      left = o .round (lowOf (h .align) (f .left) (f .right) w);
+      top = o .round (f .top);
+      right = o .round (highOf (h .align) (f .left) (f .right) w);
+      bottom = o .round (o .add (f .top) z);
+    }
+
+    unfoldable pub stripAdvance : Cursor F → Edges F → Edges F → Cursor F
+    stripAdvance s f v = record { x = o .add (v .right) (h .gap); plate = united o (s .plate) f }
+
+    unfoldable pub stripF : (Cursor F → Move F → Bool) → Cursor F → ℕ → List (Move F) → Answer (Out F (Cursor F))
+    stripF also s n [] = accepted (record { frames = []; widgets = []; last = s })
+    stripF also s n (place w z ∷ l) =
+        guard 9 n (also s (place w z))
+        (let f = stripFrame s w z in
+        guard 9 n (o .inside (f .right)) (guard 9 n (o .inside (f .bottom))
+        (let v = stripWidget f w z in
+        let t = stripAdvance s f v in guard 9 n (o .inside (t .x)) (put f v (stripF also t (suc n) l)))))
+    stripF also s n (finish ∷ l) = guard 9 n (also s finish) (stripF also s (suc n) l)
+
+abbrev pub stripBegin : {F : Type 0} → StripHead F → Cursor F
+stripBegin h = record { x = h .left; plate = record { left = h .left; top = h .top; right = h .left; bottom = h .top } }
+
+-- a strip's pass; H is record 1
+unfoldable pub stripPassF : {F : Type 0} → Ops F → (Cursor F → Move F → Bool) → StripHead F → List (Move F) → Answer (Out F (Cursor F))
+stripPassF o also h l = stripF o h also (stripBegin h) 2 l

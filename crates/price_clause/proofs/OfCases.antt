@@ -1,0 +1,3 @@
+-- The table of cases.
+mod CaseTests
+mod Computed

@@ -1,0 +1,4 @@
+-- Strips.
+mod StripPlaces
+mod StripSteps
+pub mod Strips

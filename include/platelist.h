@@ -75,11 +75,11 @@ enum {
 /* ---- Layout ---- */
 
 /* Lays a sheet out as program platelist does: in one pass, or, with a G, in two over the same places,
- * the first without memory and sizing, the second with the first's memory and not sizing.
+ * the first sizing and without a memory, the second not sizing and with what the first remembered.
  *
  *   text, length   the sheet
  *   places, room   W number k, from 0, gets places 8k to 8k + 7: its frame, then itself, each left,
- *                  top, right, bottom; all other places keep what they held
+ *                  top, right, bottom; every other place stays as it was
  *   plate          the plate's edges
  *   widths, cols, heights, rows
  *                  the memory of the last pass; with no G all zeros and counts 0

@@ -10,14 +10,14 @@ use lib.ListN.{length}
 use Rattle.drawing.specs.Pieces.{Put, emits, marked, next, filled, joined}
 use Rattle.drawing.specs.Pages.{InBounds, isLine, linesFrom, pageFor, pageWidth, pageHeight}
 use Rattle.drawing.specs.Drawings.{columnLines, rowLines, control, outlines, window, wholeWindow, windows, captions, label, labels, widgetRow, plateRow, columnRow, rowRow, one, each, seen, flat, covers}
-use Rattle.drawing.specs.Pictures.{style, head, points, title, gridded, shapes, widthLine, heightLine, dimensions, scaleLine, scale, picture, key, accepted, reason, numberOf, refusal, drawnFrom, pieces, drawing, drawnIn}
+use Rattle.drawing.specs.Pictures.{style, head, points, title, gridWidgets, shapes, widthLine, heightLine, dimensions, scaleLine, scale, picture, key, accepted, reason, numberOf, refusal, drawnFrom, pieces, drawing, drawnIn}
 use Rattle.drawing.specs.declared.Page.{Page}
 use Rattle.drawing.specs.declared.Layer.{Layer}
 use Rattle.drawing.specs.declared.Layer.the-variants.{ColumnLines, RowLines, Outlines, Windows, Captions, Labels, WidgetRows, ColumnRows, RowRows}
 use Rattle.drawing.specs.declared.Shared.the-variants.{Column, Row, Place}
 use Rattle.drawing.proofs.Room.{size, size-append, emits-room}
 use Rattle.drawing.proofs.Sizes.{taken, most, filled-size}
-use Rattle.drawing.proofs.Ruling.{lines-few, page-fair}
+use Rattle.drawing.proofs.Ruling.{lines-few, page-in-bounds}
 
 fill : (t s : List ℕ) (line : ℕ) (ns : List ℕ) {n : ℕ} → T (leb (most 0 t) n) → size (filled t s line ns) ≤ n
 fill t s line ns {n} h = let l : most 0 t ≤ n = lit≤ h in omega (arith, filled-size 0 t s line ns)
@@ -128,8 +128,8 @@ module _ (p : Page) (s : List ℕ) where
   unfolding title most taken marked next
   title-size = both _ _ {m = 40} {n = 221} (fill _ _ _ _ tt) (both _ _ {m = 23} {n = 198} (points-size _) (both _ _ {m = 8} {n = 190} (fill _ _ _ _ tt) (both _ _ {m = 23} {n = 167} (points-size _) (fill _ _ _ _ tt))))
 
-  gridded-few : p .widgets ≤ 512 → gridded p ≤ 512
-  gridded-few h = go (eqb (p .columns) 0)
+  grid-widgets-few : p .widgets ≤ 512 → gridWidgets p ≤ 512
+  grid-widgets-few h = go (eqb (p .columns) 0)
     where
       go : (b : Bool) → cond b 0 (p .widgets) ≤ 512
       go true = omega arith
@@ -139,8 +139,8 @@ module _ (p : Page) (s : List ℕ) where
   unfolding shapes most taken marked next
   shapes-size h =
       both _ _ {m = 238} {n = 156685} (fill _ _ _ _ tt)
-      (both _ _ {m = 33280} {n = 123405} (layer-size ColumnLines _ 512 (gridded-few h))
-      (both _ _ {m = 35328} {n = 88077} (layer-size RowLines _ 512 (gridded-few h))
+      (both _ _ {m = 33280} {n = 123405} (layer-size ColumnLines _ 512 (grid-widgets-few h))
+      (both _ _ {m = 35328} {n = 88077} (layer-size RowLines _ 512 (grid-widgets-few h))
       (both _ _ {m = 88064} {n = 13} (layer-size Outlines _ 512 h) (fill _ _ _ _ tt))))
 
   width-size : size (widthLine p s) ≤ 99 + (23 + 25)
@@ -217,7 +217,7 @@ drawn-by s w f false e = let l = refusal-size s (74 * w) in rw e (omega (arith, 
 -- a list has at most 512 W lines, and its page is bounds
 pub drawing-size : (s : List ℕ) → length (drawing s) ≤ 300000
 unfolding drawing pieces
-drawing-size s = drawn-by s (linesFrom 512 87 74 s 0) (page-fair s (linesFrom 512 87 74 s 0) (lines-few 512 87 74 s 0)) _ refl
+drawing-size s = drawn-by s (linesFrom 512 87 74 s 0) (page-in-bounds s (linesFrom 512 87 74 s 0) (lines-few 512 87 74 s 0)) _ refl
 
 pub drawn-there : (s out o : List ℕ) (n w : ℕ) → length out ≡ 300000 → w ≡ linesFrom 512 87 74 s 0
     → _≡_ {A = Put} (record { at = n; out = o }) (emits (drawnFrom s w) (record { at = 0; out = out }))

@@ -113,9 +113,9 @@ unfolding scaled
 scaled-small true unit d h = quotient-small d unit h .0
 scaled-small false unit d h = quotient-small d unit h .1
 
-pub cut-fair : (w c r width height bands : ℕ) → w ≤ 512 → c ≤ 32 → r ≤ 128 → width ≤ 20000000 → height ≤ 20000000 → bands ≤ 22 → InBounds (cut w c r width height bands)
+pub cut-in-bounds : (w c r width height bands : ℕ) → w ≤ 512 → c ≤ 32 → r ≤ 128 → width ≤ 20000000 → height ≤ 20000000 → bands ≤ 22 → InBounds (cut w c r width height bands)
 unfolding cut
-cut-fair w c r width height bands hw hc hr a b n =
+cut-in-bounds w c r width height bands hw hc hr a b n =
     let q = div-le-self (max width height) bands in
     record {
       widgets = hw;
@@ -168,7 +168,7 @@ span-small : (s : List ℕ) (line i j : ℕ) → span s line i j ≤ 20000000
 unfolding span
 span-small s line i j = omega (arith, place-small s line j)
 
-pub page-fair : (s : List ℕ) (w : ℕ) → w ≤ 512 → InBounds (pageFor s w)
+pub page-in-bounds : (s : List ℕ) (w : ℕ) → w ≤ 512 → InBounds (pageFor s w)
 unfolding pageFor ruled columnsOf rowsOf
-page-fair s w h =
-    cut-fair w _ _ _ _ _ h (lines-few 32 67 18 s (74 * w + 34)) (lines-few 128 68 18 s _) (span-small s (74 * w) 0 2) (span-small s (74 * w) 1 3) (bands-few _ _ _ (omega arith))
+page-in-bounds s w h =
+    cut-in-bounds w _ _ _ _ _ h (lines-few 32 67 18 s (74 * w + 34)) (lines-few 128 68 18 s _) (span-small s (74 * w) 0 2) (span-small s (74 * w) 1 3) (bands-few _ _ _ (omega arith))

@@ -34,14 +34,14 @@ title p s =
     ++ filled (ascii "</text>\n<text x=\"60\" y=\"56\">~0 &#215; ~1 ticks; left $0, top $1, right $2, bottom $3; controls: ~2; a tick is 1/32 pt</text>\n") s (plateAt p) (p .width ∷ p .height ∷ p .widgets ∷ []))))
 
 -- ---- RULES 7.10: the picture
-abbrev pub gridded : Page → ℕ
-gridded p = cond (eqb (p .columns) 0) 0 (p .widgets)
+abbrev pub gridWidgets : Page → ℕ
+gridWidgets p = cond (eqb (p .columns) 0) 0 (p .widgets)
 
 unfoldable pub shapes : Page → List ℕ → List (List ℕ)
 shapes p s =
     filled (ascii "<defs>\n<path id=\"down\" class=\"cells\" d=\"M0 $1V$3\"/>\n<path id=\"across\" class=\"cells\" d=\"M$0 0H$2\"/>\n<g id=\"plate\" stroke-width=\"~0e-3\">\n<path class=\"plate\" d=\"M$0 $1H$2V$3H$0Z\"/>\n") s (plateAt p) (thickness p ∷ [])
-    ++ (each ColumnLines p s (gridded p) 0
-    ++ (each RowLines p s (gridded p) 0
+    ++ (each ColumnLines p s (gridWidgets p) 0
+    ++ (each RowLines p s (gridWidgets p) 0
     ++ (each Outlines p s (p .widgets) 0
     ++ filled (ascii "</g>\n</defs>\n") s 0 [])))
 

@@ -13,7 +13,7 @@ ghost use mathlib.Core.Path.{_≡_};
 ghost use Prim.Native.Nat.{_+_, _*_, _≤_};
 ghost use Rattle.drawing.specs.Pieces.{emits};
 ghost use Rattle.drawing.specs.Pages.{InBounds};
-ghost use Rattle.drawing.specs.Pictures.{style, head, points, title, gridded as griddedIn, shapes, widthLine, heightLine, dimensions, scaleLine, scale, picture, key};
+ghost use Rattle.drawing.specs.Pictures.{style, head, points, title, gridWidgets as gridWidgetsIn, shapes, widthLine, heightLine, dimensions, scaleLine, scale, picture, key};
 
 fn put_style(out: &mut [u8], at: usize, list: &[u8]) -> usize
     ensures { λ r. ⌜ record { at = r; out = now (out .exit) } ≡ emits (style (now (list .entry))) (record { at = at; out = now (out .entry) }) ⌝ }
@@ -80,9 +80,9 @@ pub fn put_title(out: &mut [u8], at: usize, page: Page, list: &[u8]) -> usize
 }
 
 // Only a grid has lines of columns and rows.
-fn gridded(page: Page) -> usize
+fn grid_widgets(page: Page) -> usize
     requires { ⌜ InBounds page ⌝ }
-    ensures { λ r. ⌜ (r ≡ griddedIn page) × (r ≤ 512) ⌝ }
+    ensures { λ r. ⌜ (r ≡ gridWidgetsIn page) × (r ≤ 512) ⌝ }
 {
     if page.columns == 0 {
         return 0;
@@ -95,7 +95,7 @@ fn put_shapes(out: &mut [u8], at: usize, page: Page, list: &[u8]) -> usize
     requires { ⌜ InBounds page ⌝ }
     ensures { λ r. ⌜ record { at = r; out = now (out .exit) } ≡ emits (shapes page (now (list .entry))) (record { at = at; out = now (out .entry) }) ⌝ }
 {
-    let count = gridded(page);
+    let count = grid_widgets(page);
     let numbers = [thickness(page)];
     let plate = put_filled(
         out,

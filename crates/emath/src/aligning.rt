@@ -41,7 +41,7 @@ impl Align {
     }
 }
 
-// An infinite size in an infinite range.
+// Size and range are both infinite: the range is filled.
 fn fills(low: f32, high: f32, size: f32) -> bool
     ensures { λ r. ⌜ r ≡ isInfinite size && isInfinite (sub binary32 high low) ⌝ }
 {

@@ -79,8 +79,8 @@ module _ (k : ℕ) (l : k ≤ 7) (t b : ℤ) (T : Within 8388608 t) (B : Within 
   abbrev pub tall : ℤ
   tall = roundZ 1 last -ℤ roundZ 1 first
 
-  pub tall-fair : (pos h ≤ᶻ tall) × (tall ≤ᶻ b -ℤ t)
-  tall-fair =
+  pub tall-in-bounds : (pos h ≤ᶻ tall) × (tall ≤ᶻ b -ℤ t)
+  tall-in-bounds =
       let p = sum t b in
       let q = diff (t +ℤ b) (pos h) in
       let r = sum first (pos h +ℤ pos h) in

@@ -100,7 +100,7 @@ nextCell k g c s =
     roundRect k
     (fromMinSize (record { x = c .left; y = c .top }) (record { x = maxF (s .x) (nextWidth g); y = maxF (s .y) (prevRowHeight g (g .row)) }))
 
--- ---- RULES 3.12, align_size_within_rect, justify_and_align: whatever the layout says
+-- ---- RULES 3.12, align_size_within_rect, justify_and_align: at the left, in the middle of the height, whatever the layout says
 unfoldable pub alignSizeWithinRect : ℕ → Vec2 → Rect → Rect
 alignSizeWithinRect k size frame = roundRect k (alignWithin leftCenter size frame)
 

@@ -42,7 +42,7 @@ checkedColWidth m col = entryAnswer (memoryFault m) (ltb col (m .cols)) (colWidt
 unfoldable pub checkedRowHeight : Memory → ℕ → LengthAnswer
 checkedRowHeight m row = entryAnswer (memoryFault m) (ltb row (m .rows)) (rowHeight m row zeroF)
 
--- RULES 8.16, full_width: its number, then what it answers; so with each query below
+-- RULES 8.16, full_width: its number, then what it answers; so with the rectangles below
 unfoldable pub fullWidthNumber : Memory → Float → ℕ
 fullWidthNumber m x = orElse (least (memoryFault m ∷ lengthFault x ∷ [])) (outside (lengthFault (fullWidth m x)))
 

@@ -34,7 +34,7 @@ abbrev pub withCrossJustify : Layout → Bool → Layout
 withCrossJustify l b = record { «main_dir» = l .«main_dir»; «main_wrap» = l .«main_wrap»; «main_align» = l .«main_align»; «main_justify» = l .«main_justify»; «cross_align» = l .«cross_align»; «cross_justify» = b }
 
 -- ---- inspectors
--- RULES 2.1: of the four directions this one
+-- RULES 2.1: frames go from right to left
 unfoldable pub isRightToLeft : Direction → Bool
 isRightToLeft LeftToRight = false
 isRightToLeft RightToLeft = true

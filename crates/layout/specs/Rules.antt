@@ -50,7 +50,7 @@ notNegativeRect r = record {
   bottom = notNegative (r .top) (r .bottom) .max;
 }
 
--- RULES 2.11: no more than the cursor has
+-- RULES 2.11: cut to the cursor
 unfoldable pub availableFromCursorMaxRect : Direction → Rect → Rect → Rect
 availableFromCursorMaxRect d c m = notNegativeRect (intersect (fromCursor d c m) c)
 
@@ -106,7 +106,7 @@ newRegion d g s sp = record {
 }
 
 -- ---- RULES 2.16: a frame's size
--- it is full across the row or column where the child is centred there, and wherever it is justified
+-- all the room across a row or column that is centred there, and on an axis that is justified
 unfoldable pub fillsWidth : Layout → Bool
 fillsWidth l = (not (isHorizontal (l .«main_dir»)) && isCenter (horizontalAlign l)) || horizontalJustify l
 

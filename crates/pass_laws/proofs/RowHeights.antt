@@ -15,7 +15,7 @@ use Rattle.emath.specs.declared.Rect.{Rect}
 use Rattle.emath.specs.declared.Vec2.{Vec2}
 use Rattle.grid.specs.Memories.{heights, rowHeight}
 use Rattle.grid.specs.Grids.{nextCell, alignSizeWithinRect, prevRowHeight}
-use Rattle.grid.proofs.WidgetHeights.{tall, tall-fair, widget-height}
+use Rattle.grid.proofs.WidgetHeights.{tall, tall-in-bounds, widget-height}
 use Rattle.grid.specs.declared.GridLayout.{GridLayout}
 use Rattle.model.proofs.InFloats.Ticks.{len, cap}
 use Rattle.pass_laws.proofs.Lists.{entry-get}
@@ -64,7 +64,7 @@ module _ (k : ℕ) (l : k ≤ 6) (g : GridLayout) (c : Rect) (s : Vec2) (t : ℤ
       let B : Within 8388608 b = omega (arith, Ts, q, n) in
       let f : h ≤ 8388608 = omega (arith, n) in
       let i : t +ℤ pos h ≤ᶻ b = omega (arith, q, sum t (pos h)) in
-      let bounds = tall-fair k (omega arith) t b A B h f i in
+      let bounds = tall-in-bounds k (omega arith) t b A B h f i in
       let e = widget-height k (omega arith) t b A B h f i s (nextCell k g c s) frame-top frame-bottom size in
       found (tall k (omega arith) t b A B h f i) (bounds .0) (omega (arith, bounds .1, diff b t, q)) e
     where

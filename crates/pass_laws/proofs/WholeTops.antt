@@ -1,5 +1,5 @@
--- Each W of an accepted pass of a grid sheet in whole steps finds the cursor's top on a whole step, whatever records there are, K included,
--- and whatever memory the pass was given. For steps of 1 to 1/64 point. Assumes nothing.
+-- RULES 10.9: in an accepted pass of a grid sheet in whole steps the cursor's top is on a whole step at each W, whatever records there are,
+-- K included, and whatever memory the pass was given. For steps of 1 to 1/64 point. Assumes nothing.
 use Prim.Native.Nat.{ℕ, _+_, _≤_}
 use mathlib.Core.Path.{_≡_, sym, subst}
 use mathlib.Core.Bool.{Bool, true}

@@ -11,7 +11,7 @@ use Rattle.records.specs.declared.Step.{Step}
 use Rattle.records.specs.declared.Step.the-variants.{Widget, Space, RowHeight, MaxWidth, MaxHeight, MinWidth, MinHeight, RowEnd}
 use Rattle.sheet.specs.Pass.{Sheet, stepped, headed, gridSet}
 
--- RULES 10.8: it is at each W among the records, from the placer p on
+-- RULES 10.8: the cursor's top is on a whole step at each W among the records, from the placer p on
 unfoldable pub FindsTops : ℕ → Vec2 → Placer → List Step → Type 0
 FindsTops k sp p [] = Unit {0}
 FindsTops k sp p (Widget w h ∷ rest) = Edge k (p .region .cursor .top) × FindsTops k sp (stepped k sp p (Widget w h) .placer) rest
@@ -23,7 +23,7 @@ FindsTops k sp p (MaxHeight h ∷ rest) = FindsTops k sp (stepped k sp p (MaxHei
 FindsTops k sp p (MinWidth w ∷ rest) = FindsTops k sp (stepped k sp p (MinWidth w) .placer) rest
 FindsTops k sp p (MinHeight h ∷ rest) = FindsTops k sp (stepped k sp p (MinHeight h) .placer) rest
 
--- RULES 10.8: each W of a pass over a grid sheet, with a memory or none, sizing or not
+-- RULES 10.8: so it is in a pass over a grid sheet, with a memory or none, sizing or not
 abbrev pub TopsOnSteps : ℕ → Sheet → Bool → Memory → Bool → Type 0
 TopsOnSteps k s known m sizing = FindsTops k (s .heading .spacing) (gridSet (s .heading) known m sizing (headed k (s .heading) .placer) .placer) (s .steps)
 

@@ -91,9 +91,9 @@ pub headed-none : (k : ℕ) (r : Rect) (l : Layout) (a : PlacerAnswer) → a ≡
 unfolding checkedNew
 headed-none k r l a e h = changed-none _ _ _ a e h
 
-pub gridded-none : (h : Heading) (known : Bool) (m : Memory) (sizing : Bool) (p : Placer) (a : PlacerAnswer) → a ≡ gridSet h known m sizing p → a .number ≡ 0 → placerFault (a .placer) ≡ 0
+pub grid-set-none : (h : Heading) (known : Bool) (m : Memory) (sizing : Bool) (p : Placer) (a : PlacerAnswer) → a ≡ gridSet h known m sizing p → a .number ≡ 0 → placerFault (a .placer) ≡ 0
 unfolding gridSet checkedSetGrid
-gridded-none h known m sizing p a e z =
+grid-set-none h known m sizing p a e z =
     let b = checkedSetGrid p (gridOf h known m sizing p .grid) in
     let n = or-none (gridOf h known m sizing p .number) (b .number) (ap (λ (x : PlacerAnswer). x .number) (sym e) ∙ z) .1 in
     rw e (changed-none _ _ _ b refl n)

@@ -14,7 +14,7 @@ use placer::rules::save_grid;
 use records::Heading;
 ghost use mathlib.Core.Path.{_≡_};
 ghost use mathlib.Core.List.{List, []};
-ghost use Rattle.sheet.specs.Pass.{Cell, refusedAt, outcomeOf, gridSet as griddedBy};
+ghost use Rattle.sheet.specs.Pass.{Cell, refusedAt, outcomeOf, gridSet as gridSetBy};
 ghost use Rattle.sheet.specs.Implementation.Walks.{runOf, ranOf};
 ghost use Rattle.sheet.specs.Slices.{laidOf, passedOf};
 
@@ -87,7 +87,7 @@ pub(crate) fn grid_set(
     sizing: bool,
     placer: Placer,
 ) -> PlacerAnswer
-    ensures { λ a. ⌜ a ≡ griddedBy heading known memory sizing placer ⌝ }
+    ensures { λ a. ⌜ a ≡ gridSetBy heading known memory sizing placer ⌝ }
 {
     let layout = heading.layout;
     let main_dir = layout.main_dir;

@@ -25,7 +25,7 @@ ghost use Rattle.emath.specs.Steps.{tick};
 ghost use Rattle.placer.specs.Refusals.{placerFault};
 ghost use Rattle.records.specs.Sheets.{recordsFrom, widgets};
 ghost use Rattle.records.specs.Implementation.SizeCache.{AreCached, cachedBy};
-ghost use Rattle.sheet.specs.Pass.{called, followed, gridSet as griddedBy, runFrom, pass as passBy};
+ghost use Rattle.sheet.specs.Pass.{called, followed, gridSet as gridSetBy, runFrom, pass as passBy};
 ghost use Rattle.sheet.specs.Texts.{stepsOf};
 ghost use Rattle.sheet.specs.Slices.{written, passedOf, Called};
 ghost use Rattle.sheet.specs.Implementation.Walks.{OnlySteps, recordsAfter, sheetAfter, Room, Known, Answers};
@@ -112,7 +112,7 @@ fn with_grid(
     out: &mut [i32],
 ) -> Passed
     requires { ⌜ Room heading (now text) (length (now out)) (now sizes) ⌝ }
-    ensures { λ r. ⌜ Answers (heading .«has_grid») memory (followed (heading .records) (called (griddedBy heading known memory sizing placer)) (runFrom tick (heading .spacing) (heading .records + 1) (griddedBy heading known memory sizing placer .placer) (stepsOf (recordsAfter heading (now (text .entry)))))) (now (out .entry)) r (now (out .exit)) ⌝ }
+    ensures { λ r. ⌜ Answers (heading .«has_grid») memory (followed (heading .records) (called (gridSetBy heading known memory sizing placer)) (runFrom tick (heading .spacing) (heading .records + 1) (gridSetBy heading known memory sizing placer .placer) (stepsOf (recordsAfter heading (now (text .entry)))))) (now (out .entry)) r (now (out .exit)) ⌝ }
 {
     let a = grid_set(heading, known, memory, sizing, placer);
     let number = a.number;

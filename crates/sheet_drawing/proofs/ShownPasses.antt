@@ -1,4 +1,4 @@
--- A drawing shows its pass: of every text that is accepted, the list that is drawn has the numbers of the pass that is printed. Assumes
+-- RULES 7.10: of every text that is accepted, the list that is drawn has the numbers of the pass that is printed (`Shows`). Assumes
 -- nothing.
 use Prim.Native.Nat.{ℕ, zero, suc, _+_, _*_, _≤_, _<_}
 use mathlib.Core.Path.{_≡_, refl, ap, sym, _∙_, subst}

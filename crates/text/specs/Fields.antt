@@ -26,7 +26,7 @@ unfoldable pub columns : Bool → ℕ → ℕ → List ℕ
 columns neg n zero = []
 columns neg n (suc k) = column neg n k ∷ columns neg n k
 
--- RULES 6.2: all eight columns of a number
+-- RULES 6.2: a number's sign, and all of its eight columns
 abbrev pub negative : ℤ → Bool
 negative (pos n) = false
 negative (negsuc n) = true
@@ -48,7 +48,7 @@ unfoldable pub digitsFrom : ℕ → List ℕ → ℕ
 digitsFrom acc [] = acc
 digitsFrom acc (b ∷ bs) = digitsFrom (grow acc b) bs
 
--- the same bytes; and spaces only
+-- whether two texts are the same bytes, and whether one is spaces only
 unfoldable pub same : List ℕ → List ℕ → Bool
 same [] [] = true
 same [] (y ∷ ys) = false

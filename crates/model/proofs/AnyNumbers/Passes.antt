@@ -1,5 +1,5 @@
--- Passes one after the other, each with the memory that the last one gave: once a pass gives back the memory that it was given, all further
--- passes are that one, however many. Assumes nothing.
+-- Passes in turn, each with the memory of the one before: once a pass gives back the memory that it was given, all after it are that one,
+-- however many. Assumes nothing.
 use mathlib.Core.Path.{_≡_, refl, _∙_, ap}
 use mathlib.Core.Bool.{Bool, true, false}
 use Prim.Native.Nat.{ℕ, zero, suc}

@@ -1,6 +1,6 @@
--- Computed from the rules: the cases of the table; that the clause speaks of something, two strips and two grids that it covers, with the clause
--- applied to them; and why each condition is there: pairs of accepted, grown sheets that break the conclusion, each without one condition, and
--- passes that begin with a memory and do not settle at the second. Assumes nothing.
+-- Computed from the rules: the cases of RULES 9; that the clause speaks of something, two strips and two grids that it covers, with the
+-- clause applied to them; and why each condition is there (RULES 10.11): pairs of accepted, grown sheets that break the conclusion, each
+-- without one condition, and passes that begin with a memory and do not settle at the second. Assumes nothing.
 use Prim.Native.Nat.{ℕ}
 use mathlib.Core.Path.{_≡_, refl}
 use mathlib.Core.Bool.{true, false}

@@ -1,5 +1,5 @@
 -- `sheet::passing::with_grid` meets its contract. Assumes nothing.
-use Rattle.sheet.proofs.Stepping.{gridded-none}
+use Rattle.sheet.proofs.Stepping.{grid-set-none}
 use Rattle.sheet.proofs.WalkedPasses.{refused-answers, began-answers}
 use borrow.Author.Needs.{needs}
 use Rattle.sheet.proofs.passing.with_grid.Statement.{statement}
@@ -9,7 +9,7 @@ returns : tie.Need-returns
 returns c = rw (← c .before .before .grid-set .ensures) (refused-answers _ _ _ _ _ _ _ (c .before .if1 .taken) (c .refused .ensures))
 
 go-on-requires : tie.Need-go-on-requires
-go-on-requires c κs = (gridded-none _ _ _ _ _ _ (c .before .before .before .grid-set .ensures) (c .before .before .if1 .left), c .before .before .before .before .before .before .pre)
+go-on-requires c κs = (grid-set-none _ _ _ _ _ _ (c .before .before .before .grid-set .ensures) (c .before .before .if1 .left), c .before .before .before .before .before .before .pre)
 
 returns-2 : tie.Need-returns-2
 returns-2 c = rw (← c .before .before .before .before .before .grid-set .ensures) (began-answers _ _ _ _ _ _ _ _ (c .before .before .before .before .if1 .left) (c .before .go-on .ensures))

@@ -4,8 +4,8 @@ use borrow.Author.Needs.{needs}
 use Rattle.sheet.proofs.steps.run_record.Statement.{statement}
 use Rattle.sheet.proofs.steps.run_record.Tie as tie
 
-step-moved-requires : tie.Need-step-moved-requires
-step-moved-requires c κs = c .before .before .before .before .before .before .before .before .before .pre
+run-step-requires : tie.Need-run-step-requires
+run-step-requires c κs = c .before .before .before .before .before .before .before .before .before .pre
 
 returns : tie.Need-returns
 unfolding recordResult
@@ -16,4 +16,4 @@ unfolding recordResult
 returns-2 c = rw (c .before .enum-told .given .1) (c .step-result .ensures _ _ _ _ _)
 
 pub run-record-spec : {M : Type 1} → statement M
-run-record-spec = tie.close (tie.spec (λ c. search needs) step-moved-requires (λ c. search needs) (λ c κs. search needs) (λ c. search needs) (λ c. search needs) returns returns-2)
+run-record-spec = tie.close (tie.spec (λ c. search needs) run-step-requires (λ c. search needs) (λ c κs. search needs) (λ c. search needs) (λ c. search needs) returns returns-2)

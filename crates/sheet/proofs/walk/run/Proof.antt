@@ -42,8 +42,8 @@ cached-record-requires c κs =
     let l = c .before .before .before .before .loop in
     ((omega (arith, l .inv .2, c .before .before .before .loop-test .taken, a .pre .1 .0 .1), a .pre .1 .1 .2), cached-here (a .args .text .now) (a .args .sizes .now) (l .at) (l .n) (l .left) (l .inv .6) (c .before .before .before .loop-test .taken) (c .before .before .if1 .left))
 
-record-moved-requires : tie.Need-record-moved-requires Inv-loop μ-loop
-record-moved-requires c κs = c .before .before .before .before .before .loop .inv .4
+run-record-requires : tie.Need-run-record-requires Inv-loop μ-loop
+run-record-requires c κs = c .before .before .before .before .before .loop .inv .4
 
 same-length-4 : tie.Need-same-length-4 Inv-loop μ-loop
 same-length-4 c = c .before .before .before .before .before .before .run-record .kept .1 .1 .1 .1 .0 ∙ c .before .before .before .before .before .before .before .before .before .before .before .before .loop .inv .4 .cols ∙ sym (c .before .before .before .before .before .before .before .before .before .before .before .before .before .before .before .before .before .before .before .pre .0 .cols)
@@ -105,4 +105,4 @@ returns-3 c =
     as-walked _ _ _ _ _ _ _ _ (c .before .before .before .before .before .before .before .before .pre .1 .1 .0) (walk-is-full (a .text .now) (a .spacing) (l .left) (l .n) (l .at) (l .w) p (l .out) _ (l .inv .5) (c .loop-test .left))
 
 pub run-spec : {M : Type 1} → statement M
-run-spec = tie.close (tie.spec Inv-loop μ-loop (λ c. search needs) (λ c. search needs) (λ c. search needs) (λ c. search needs) returns cached-record-requires record-moved-requires same-length-4 same-length-5 (λ c. search needs) returns-2 put-requires (λ c κs. search needs) add-n sub-left loop-less loop-again (λ c. search needs) (λ c. search needs) (λ c. search needs) returns-3)
+run-spec = tie.close (tie.spec Inv-loop μ-loop (λ c. search needs) (λ c. search needs) (λ c. search needs) (λ c. search needs) returns cached-record-requires run-record-requires same-length-4 same-length-5 (λ c. search needs) returns-2 put-requires (λ c κs. search needs) add-n sub-left loop-less loop-again (λ c. search needs) (λ c. search needs) (λ c. search needs) returns-3)

@@ -35,7 +35,7 @@ module _ (out : List ℕ) (at letter : ℕ) (zs : List ℤ) (o : List ℕ) where
     where
       go : (a b : Bool) → leb (at + bytes zs) (length out) ≡ a → _≡_ {A = Bool × List ℕ} (true, o) (cond (a && b) (true, sets out at (line letter zs)) (false, out)) → at + bytes zs ≤ length out
       go true b t e = leb-true (at + bytes zs) (length out) t
-      go false b t e = no-such (sym (ap (λ (p : Bool × List ℕ). p .0) e))
+      go false b t e = absurd (true≢false (ap (λ (p : Bool × List ℕ). p .0) e))
 
   pub line-put : (b : Bool) → (b, o) ≡ lineAt out at letter zs → _≡_ {A = Put} (record { at = cond b (at + bytes zs) at; out = o }) (putLine letter zs (record { at = at; out = out }))
   unfolding lineAt putLine

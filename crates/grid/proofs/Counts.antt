@@ -57,3 +57,14 @@ not-same (v ∷ vs) (w ∷ ws) h = rw (← (not-same vs ws (λ (e : length vs �
     none : (b : Bool) → false ≡ b && false
     none true = refl
     none false = refl
+
+-- ---- two arrays, each with its count, of which i and j entries are there
+module _ (xs ys : List Float) (n m i j : ℕ) (I : i ≡ capped n (length xs)) (J : j ≡ capped m (length ys)) where
+  pub counted-room : i ≡ j → (i ≤ length xs) × (i ≤ length ys)
+  counted-room e = (omega (arith, I, capped-le n (length xs)), omega (arith, J, capped-le m (length ys)))
+
+  pub same-counted : i ≡ j → sameEntries (take i xs) (take i ys) ≡ sameEntries (take n xs) (take m ys)
+  same-counted e = rw (ap (λ (k : ℕ). take k xs) I ∙ take-capped xs n (length xs) refl, ap (λ (k : ℕ). take k ys) (e ∙ J) ∙ take-capped ys m (length ys) refl)
+
+  pub counts-apart : (i ≡ j → ⊥) → false ≡ sameEntries (take n xs) (take m ys)
+  counts-apart h = not-same (take n xs) (take m ys) (λ (e : length (take n xs) ≡ length (take m ys)). h (I ∙ sym (length-capped xs n (length xs) refl) ∙ e ∙ length-capped ys m (length ys) refl ∙ sym J))

@@ -25,33 +25,26 @@ use region::Direction;
 use region::faults::cursor_fault;
 use region::faults::zero_if_open;
 ghost use mathlib.Core.Path.{_≡_};
+ghost use lib.ListN.{take};
 ghost use Rattle.grid.specs.Entries.{entriesFault};
-ghost use Rattle.grid.specs.Memories.{widths, heights};
 ghost use Rattle.grid.specs.Refusals.{memoryFault, maxCellFault, gridFault, fitsGrid, directionFault, movedFault, memoryAnswer, gridAnswer, movedAnswer, savedAnswer, lengthAnswer, entryAnswer};
 
-fn widths_fault(memory: Memory) -> u8
-    ensures { λ n. ⌜ n ≡ entriesFault (widths memory) ⌝ }
+// The least number of an array's counted entries.
+fn counted_fault(xs: &[f32], n: usize) -> u8
+    ensures { λ r. ⌜ r ≡ entriesFault (take n (now (xs .entry))) ⌝ }
 {
-    let n = capped_count(memory.cols, MAX_COLS);
-    let xs = memory.col_widths;
-    entries_fault(&xs, n)
-}
-
-fn heights_fault(memory: Memory) -> u8
-    ensures { λ n. ⌜ n ≡ entriesFault (heights memory) ⌝ }
-{
-    let n = capped_count(memory.rows, MAX_ROWS);
-    let xs = memory.row_heights;
-    entries_fault(&xs, n)
+    entries_fault(xs, capped_count(n, xs.len()))
 }
 
 pub fn memory_fault(memory: Memory) -> u8
     ensures { λ n. ⌜ n ≡ memoryFault memory ⌝ }
 {
+    let widths = memory.col_widths;
+    let heights = memory.row_heights;
     lesser_number(
-        widths_fault(memory),
+        counted_fault(&widths, memory.cols),
         lesser_number(
-            heights_fault(memory),
+            counted_fault(&heights, memory.rows),
             lesser_number(
                 number_when(MAX_COLS < memory.cols, GRID_FULL),
                 number_when(MAX_ROWS < memory.rows, GRID_FULL),

@@ -8,7 +8,8 @@ use crate::entries::same_entries;
 use crate::entries::total_of;
 ghost use mathlib.Core.Path.{_≡_};
 ghost use Prim.Native.Nat.{_-_};
-ghost use Rattle.grid.specs.Memories.{emptyMemory, capped, raisedCount, setMinColWidth, setMinRowHeight, colWidth, rowHeight, fullWidth, sameMemory, widths, heights};
+ghost use lib.ListN.{take};
+ghost use Rattle.grid.specs.Memories.{emptyMemory, capped, raisedCount, setMinColWidth, setMinRowHeight, colWidth, rowHeight, fullWidth, sameMemory};
 ghost use Rattle.grid.specs.Entries.{sameEntries};
 
 pub fn empty_memory() -> Memory
@@ -111,26 +112,13 @@ pub fn full_width(memory: Memory, x_spacing: f32) -> f32
     total_of(&xs, n) + (gap_count(n) as f32) * x_spacing
 }
 
-fn same_widths(a: Memory, b: Memory) -> bool
-    ensures { λ r. ⌜ r ≡ sameEntries (widths a) (widths b) ⌝ }
+// Whether two arrays count as many entries, each equal to its counterpart.
+fn same_counted(xs: &[f32], n: usize, ys: &[f32], m: usize) -> bool
+    ensures { λ r. ⌜ r ≡ sameEntries (take n (now (xs .entry))) (take m (now (ys .entry))) ⌝ }
 {
-    let n = capped_count(a.cols, MAX_COLS);
-    if n == capped_count(b.cols, MAX_COLS) {
-        let xs = a.col_widths;
-        let ys = b.col_widths;
-        return same_entries(&xs, &ys, n);
-    }
-    false
-}
-
-fn same_heights(a: Memory, b: Memory) -> bool
-    ensures { λ r. ⌜ r ≡ sameEntries (heights a) (heights b) ⌝ }
-{
-    let n = capped_count(a.rows, MAX_ROWS);
-    if n == capped_count(b.rows, MAX_ROWS) {
-        let xs = a.row_heights;
-        let ys = b.row_heights;
-        return same_entries(&xs, &ys, n);
+    let k = capped_count(n, xs.len());
+    if k == capped_count(m, ys.len()) {
+        return same_entries(xs, ys, k);
     }
     false
 }
@@ -139,5 +127,10 @@ fn same_heights(a: Memory, b: Memory) -> bool
 pub fn same_memory(a: Memory, b: Memory) -> bool
     ensures { λ r. ⌜ r ≡ sameMemory a b ⌝ }
 {
-    same_widths(a, b) & same_heights(a, b)
+    let widths = a.col_widths;
+    let others = b.col_widths;
+    let wide = same_counted(&widths, a.cols, &others, b.cols);
+    let heights = a.row_heights;
+    let those = b.row_heights;
+    wide & same_counted(&heights, a.rows, &those, b.rows)
 }

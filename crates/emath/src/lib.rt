@@ -45,9 +45,9 @@ pub struct Align2 {
 }
 
 // RULES 1.2: a tick is 1/32 point.
-pub const TICKS_PER_POINT: f32 = 32.0;
+pub const TICK: f32 = 0.03125;
 
-pub const TICK: f32 = 1.0 / TICKS_PER_POINT;
+pub const TICKS_PER_POINT: f32 = 1.0 / TICK;
 
 // No length is of greater magnitude, in points.
 pub const LIMIT: f32 = 65536.0;

@@ -103,6 +103,16 @@ unfolding walked
 full-walk zero sp n p u out w h = refl
 full-walk (suc left) sp n p u out w h = absurd (omega arith)
 
+-- what a turn gives that reads a record: m, what the record gives
+pub record Turn (text : List ℕ) (sp : Vec2) (left n at w : ℕ) (p : Placer) (out : List ℤ) (r : Walk) (m : CallResult) : Type 0 where
+  pub stops : (m .number ≡ 0 → ⊥) → record { run = record { number = m .number; at = n; placer = m .placer }; slice = out } ≡ r
+  pub goes-on : m .number ≡ 0 → walked (left - 1) sp (n + 1) (m .placer) (drop (nextAt text at) text) (putAt out w (m .placed) (m .frame) (m .widget)) (w + m .placed) ≡ r
+  -- the slice has room for the W that are left
+  pub room : 8 * (w + widgets (recordsFrom left (drop at text))) ≤ length out → 8 * (w + m .placed + widgets (recordsFrom (left - 1) (drop (nextAt text at) text))) ≤ length out
+  pub few : m .placed ≤ 1
+  pub in-ticks : m .number ≡ 0 → 0 < m .placed → Whole m
+  pub unfaulted : m .number ≡ 0 → placerFault (m .placer) ≡ 0
+
 module _ (text : List ℕ) (sp : Vec2) (left n at w : ℕ) (p : Placer) (out : List ℤ) (r : Walk) (inv : walked left sp n p (drop at text) out w ≡ r) where
   pub walk-ends : length text ≤ at → done p out ≡ r
   walk-ends h = sym (ended-walk left sp n p out w) ∙ ap (λ (u : List ℕ). walked left sp n p u out w) (sym (drop-of-length-le text h)) ∙ inv
@@ -111,32 +121,31 @@ module _ (text : List ℕ) (sp : Vec2) (left n at w : ℕ) (p : Placer) (out : L
   walk-is-full h = sym (full-walk left sp n p (drop at text) out w h) ∙ inv
 
   module _ (more : 0 < left) (here : at < length text) (m : CallResult) (em : m ≡ recordResult p sp (recordAt text at)) where
-    turn : cond (eqb (m .number) 0) (walked (left - 1) sp (n + 1) (m .placer) (drop (nextAt text at) text) (putAt out w (m .placed) (m .frame) (m .widget)) (w + m .placed))
+    next : cond (eqb (m .number) 0) (walked (left - 1) sp (n + 1) (m .placer) (drop (nextAt text at) text) (putAt out w (m .placed) (m .frame) (m .widget)) (w + m .placed))
         (record { run = record { number = m .number; at = n; placer = m .placer }; slice = out }) ≡ r
     unfolding recordAt
-    turn =
+    next =
         let l : 0 < length (drop at text) = omega (arith, length-drop at text) in
         rw (em, next-is-rest text at) (sym (front left sp n p (drop at text) out w more l) ∙ inv)
 
-    pub walk-stops : (m .number ≡ 0 → ⊥) → record { run = record { number = m .number; at = n; placer = m .placer }; slice = out } ≡ r
-    walk-stops h = rw (ne-eqb (m .number) 0 h) at turn
+    placed-here : m .placed ≡ widget (recordAt text at)
+    placed-here = ap (λ (x : CallResult). x .placed) em ∙ result-placed p sp (recordAt text at)
 
-    pub walk-goes-on : m .number ≡ 0 → walked (left - 1) sp (n + 1) (m .placer) (drop (nextAt text at) text) (putAt out w (m .placed) (m .frame) (m .widget)) (w + m .placed) ≡ r
-    walk-goes-on h = rw (eq-eqb (m .number) 0 h) at turn
-
-    -- the slice has room for the W that are left
-    pub room-left : 8 * (w + widgets (recordsFrom left (drop at text))) ≤ length out → 8 * (w + m .placed + widgets (recordsFrom (left - 1) (drop (nextAt text at) text))) ≤ length out
+    room-left : 8 * (w + widgets (recordsFrom left (drop at text))) ≤ length out → 8 * (w + m .placed + widgets (recordsFrom (left - 1) (drop (nextAt text at) text))) ≤ length out
     unfolding widgets
     room-left h =
         let e : widgets (recordsFrom left (drop at text)) ≡ widget (recordAt text at) + widgets (recordsFrom (left - 1) (drop (nextAt text at) text)) = ap (λ (rs : List Record). widgets rs) (records-step left text at more here) in
-        let q : m .placed ≡ widget (recordAt text at) = ap (λ (x : CallResult). x .placed) em ∙ result-placed p sp (recordAt text at) in
-        omega (arith, h, e, q)
+        omega (arith, h, e, placed-here)
 
-    pub result-few : m .placed ≤ 1
-    result-few = omega (arith, ap (λ (x : CallResult). x .placed) em ∙ result-placed p sp (recordAt text at), at-most-one (recordAt text at))
+    accepted-here : m .number ≡ 0 → recordResult p sp (recordAt text at) .number ≡ 0
+    accepted-here h = ap (λ (x : CallResult). x .number) (sym em) ∙ h
 
-    pub result-in-ticks : m .number ≡ 0 → 0 < m .placed → Whole m
-    result-in-ticks h l = subst Whole (sym em) (result-whole p sp (recordAt text at) (ap (λ (x : CallResult). x .number) (sym em) ∙ h) (subst (λ (x : CallResult). 0 < x .placed) em l))
-
-    pub moved-unfaulted : m .number ≡ 0 → placerFault (m .placer) ≡ 0
-    moved-unfaulted h = subst (λ (x : CallResult). placerFault (x .placer) ≡ 0) (sym em) (moved-none p sp (recordAt text at) (ap (λ (x : CallResult). x .number) (sym em) ∙ h))
+    pub turn : Turn text sp left n at w p out r m
+    turn = record {
+      stops = λ h. rw (ne-eqb (m .number) 0 h) at next;
+      goes-on = λ h. rw (eq-eqb (m .number) 0 h) at next;
+      room = room-left;
+      few = omega (arith, placed-here, at-most-one (recordAt text at));
+      in-ticks = λ h l. subst Whole (sym em) (result-whole p sp (recordAt text at) (accepted-here h) (subst (λ (x : CallResult). 0 < x .placed) em l));
+      unfaulted = λ h. subst (λ (x : CallResult). placerFault (x .placer) ≡ 0) (sym em) (moved-none p sp (recordAt text at) (accepted-here h));
+    }

@@ -7,9 +7,6 @@ use borrow.Author.Needs.{needs}
 use Rattle.embed.proofs.exports.copy_whole.Statement.{statement}
 use Rattle.embed.proofs.exports.copy_whole.Tie as tie
 
-slice-aggregate-copy : tie.Need-slice-aggregate-copy
-slice-aggregate-copy c = simp length-take (omega arith)
-
 copy-requires : tie.Need-copy-requires
 copy-requires c κs =
     let a = c .before .before .before .before .before .args in
@@ -27,4 +24,4 @@ returns-2 c =
     left (a .n) (a .from .now) (a .out .now) (c .if1 .left)
 
 pub copy-whole-spec : {M : Type 1} → statement M
-copy-whole-spec = tie.close (tie.spec slice-aggregate-copy copy-requires (λ c. search needs) returns returns-2)
+copy-whole-spec = tie.close (tie.spec (λ c. simp length-take (omega arith)) copy-requires (λ c. search needs) returns returns-2)

@@ -6,9 +6,6 @@ use borrow.Author.Needs.{needs}
 use Rattle.records.proofs.size_cache.store_step.Statement.{statement}
 use Rattle.records.proofs.size_cache.store_step.Tie as tie
 
-slice-write-sizes-2 : tie.Need-slice-write-sizes-2
-slice-write-sizes-2 c = simp length-set (omega arith)
-
 returns : tie.Need-returns
 unfolding storedStep
 returns c = rw (c .before .st .given .1)
@@ -42,4 +39,4 @@ unfolding storedStep
 returns-8 c = search needs
 
 pub store-step-spec : {M : Type 1} → statement M
-store-step-spec = tie.close (tie.spec (λ c. search needs) (λ c. search needs) (λ c. search needs) (λ c. search needs) (λ c. search needs) slice-write-sizes-2 (λ c. search needs) (λ c. search needs) (λ c. search needs) (λ c. search needs) (λ c. search needs) (λ c. search needs) (λ c. search needs) (λ c. search needs) returns returns-2 returns-3 returns-4 returns-5 returns-6 returns-7 returns-8)
+store-step-spec = tie.close (tie.spec (λ c. search needs) (λ c. search needs) (λ c. search needs) (λ c. search needs) (λ c. search needs) (λ c. simp length-set (omega arith)) (λ c. search needs) (λ c. search needs) (λ c. search needs) (λ c. search needs) (λ c. search needs) (λ c. search needs) (λ c. search needs) (λ c. search needs) returns returns-2 returns-3 returns-4 returns-5 returns-6 returns-7 returns-8)

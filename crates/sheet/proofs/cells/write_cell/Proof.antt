@@ -10,30 +10,6 @@ use borrow.Author.Needs.{needs}
 use Rattle.sheet.proofs.cells.write_cell.Statement.{statement}
 use Rattle.sheet.proofs.cells.write_cell.Tie as tie
 
-slice-set-from-out-2 : tie.Need-slice-set-from-out-2
-slice-set-from-out-2 c = simp length-set (omega arith)
-
-slice-set-from-out-3 : tie.Need-slice-set-from-out-3
-slice-set-from-out-3 c = simp length-set (omega arith)
-
-slice-set-from-out-4 : tie.Need-slice-set-from-out-4
-slice-set-from-out-4 c = simp length-set (omega arith)
-
-slice-set-from-out-5 : tie.Need-slice-set-from-out-5
-slice-set-from-out-5 c = simp length-set (omega arith)
-
-slice-set-from-out-6 : tie.Need-slice-set-from-out-6
-slice-set-from-out-6 c = simp length-set (omega arith)
-
-slice-set-from-out-7 : tie.Need-slice-set-from-out-7
-slice-set-from-out-7 c = simp length-set (omega arith)
-
-slice-set-from-out-8 : tie.Need-slice-set-from-out-8
-slice-set-from-out-8 c = simp length-set (omega arith)
-
-same-length : tie.Need-same-length
-same-length c = simp length-set
-
 returns : tie.Need-returns
 returns c =
     let s1 : Same (c .before .before .before .before .before .before .before .tick .result) = search needs in
@@ -48,4 +24,4 @@ returns c =
     (eight-put (c .before .before .before .before .before .before .before .before .args .out .now) (c .before .before .before .before .before .before .before .before .args .at) _ _ _ _ _ _ _ _ ∙ ap (λ (l : List ℤ). sets (c .before .before .before .before .before .before .before .before .args .out .now) (c .before .before .before .before .before .before .before .before .args .at) l) (same-eight _ _ _ _ _ _ _ _ _ _ _ _ _ _ _ _ (c .before .before .before .before .before .before .before .tick .ensures) (c .before .before .before .before .before .before .tick2 .ensures) (c .before .before .before .before .before .tick3 .ensures) (c .before .before .before .before .tick4 .ensures) (c .before .before .before .tick5 .ensures) (c .before .before .tick6 .ensures) (c .before .tick7 .ensures) (c .tick8 .ensures)))
 
 pub write-cell-spec : {M : Type 1} → statement M
-write-cell-spec = tie.close (tie.spec (λ c κs. search needs) (λ c. search needs) (λ c. search needs) (λ c κs. search needs) (λ c. search needs) (λ c. search needs) slice-set-from-out-2 (λ c κs. search needs) (λ c. search needs) (λ c. search needs) slice-set-from-out-3 (λ c κs. search needs) (λ c. search needs) (λ c. search needs) slice-set-from-out-4 (λ c κs. search needs) (λ c. search needs) (λ c. search needs) slice-set-from-out-5 (λ c κs. search needs) (λ c. search needs) (λ c. search needs) slice-set-from-out-6 (λ c κs. search needs) (λ c. search needs) (λ c. search needs) slice-set-from-out-7 (λ c κs. search needs) (λ c. search needs) (λ c. search needs) slice-set-from-out-8 same-length returns)
+write-cell-spec = tie.close (tie.spec (λ c κs. search needs) (λ c. search needs) (λ c. search needs) (λ c κs. search needs) (λ c. search needs) (λ c. search needs) (λ c. simp length-set (omega arith)) (λ c κs. search needs) (λ c. search needs) (λ c. search needs) (λ c. simp length-set (omega arith)) (λ c κs. search needs) (λ c. search needs) (λ c. search needs) (λ c. simp length-set (omega arith)) (λ c κs. search needs) (λ c. search needs) (λ c. search needs) (λ c. simp length-set (omega arith)) (λ c κs. search needs) (λ c. search needs) (λ c. search needs) (λ c. simp length-set (omega arith)) (λ c κs. search needs) (λ c. search needs) (λ c. search needs) (λ c. simp length-set (omega arith)) (λ c κs. search needs) (λ c. search needs) (λ c. search needs) (λ c. simp length-set (omega arith)) (λ c. simp length-set) returns)

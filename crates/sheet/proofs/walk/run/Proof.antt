@@ -12,7 +12,7 @@ use Rattle.records.proofs.SizeCache.{cached-here, still-cached}
 use Rattle.sheet.specs.Implementation.Calls.{recordResult, Ready}
 use Rattle.sheet.proofs.Walks.{walked}
 use Rattle.sheet.proofs.WalkedRuns.{as-walked}
-use Rattle.sheet.proofs.Walking.{walk-ends, walk-is-full, walk-stops, walk-goes-on, room-left, result-few, result-in-ticks, moved-unfaulted}
+use Rattle.sheet.proofs.Walking.{walk-ends, walk-is-full, turn}
 use borrow.Author.Needs.{needs}
 use Rattle.sheet.proofs.walk.run.Statement.{statement}
 use Rattle.sheet.proofs.walk.run.Tie as tie
@@ -31,9 +31,7 @@ returns : tie.Need-returns Inv-loop μ-loop
 returns c =
     let a = c .before .before .before .before .before .before .before .before .before .args in
     let l = c .before .before .loop in
-    let pw = a .prev-widths .now in
-    let ph = a .prev-heights .now in
-    let p = placerOf (a .placer) (l .s) pw ph (l .widths) (l .heights) in
+    let p = placerOf (a .placer) (l .s) (a .prev-widths .now) (a .prev-heights .now) (l .widths) (l .heights) in
     as-walked _ _ _ _ _ _ _ _ (c .before .before .before .before .before .before .before .before .before .pre .1 .1 .0) (walk-ends (a .text .now) (a .spacing) (l .left) (l .n) (l .at) (l .w) p (l .out) _ (l .inv .5) (c .if1 .taken))
 
 cached-record-requires : tie.Need-cached-record-requires Inv-loop μ-loop
@@ -55,22 +53,20 @@ returns-2 : tie.Need-returns-2 Inv-loop μ-loop
 returns-2 c =
     let a = c .before .before .before .before .before .before .before .before .before .before .before .before .before .before .before .before .before .before .before .args in
     let l = c .before .before .before .before .before .before .before .before .before .before .before .before .loop in
-    let pw = a .prev-widths .now in
-    let ph = a .prev-heights .now in
-    let p = placerOf (a .placer) (l .s) pw ph (l .widths) (l .heights) in
+    let p = placerOf (a .placer) (l .s) (a .prev-widths .now) (a .prev-heights .now) (l .widths) (l .heights) in
     let em = c .before .before .before .before .before .before .run-record .ensures ∙ ap (λ (x : Record). recordResult p (a .spacing) x) (c .before .before .before .before .before .before .before .cached-record .ensures) in
-    as-walked _ _ _ _ _ _ _ _ (c .before .before .before .before .before .before .before .before .before .before .before .before .before .before .before .before .before .before .before .pre .1 .1 .0) (walk-stops (a .text .now) (a .spacing) (l .left) (l .n) (l .at) (l .w) p (l .out) _ (l .inv .5) (c .before .before .before .before .before .before .before .before .before .before .before .loop-test .taken) (c .before .before .before .before .before .before .before .before .before .before .if1 .left) _ em (c .if2 .taken))
+    let t = turn (a .text .now) (a .spacing) (l .left) (l .n) (l .at) (l .w) p (l .out) _ (l .inv .5) (c .before .before .before .before .before .before .before .before .before .before .before .loop-test .taken) (c .before .before .before .before .before .before .before .before .before .before .if1 .left) _ em in
+    as-walked _ _ _ _ _ _ _ _ (c .before .before .before .before .before .before .before .before .before .before .before .before .before .before .before .before .before .before .before .pre .1 .1 .0) (t .stops (c .if2 .taken))
 
 put-requires : tie.Need-put-requires Inv-loop μ-loop
 put-requires c κs =
     let a = c .before .before .before .before .before .before .before .before .before .before .before .before .before .before .before .before .before .before .before .before .args in
     let l = c .before .before .before .before .before .before .before .before .before .before .before .before .before .loop in
-    let pw = a .prev-widths .now in
-    let ph = a .prev-heights .now in
-    let p = placerOf (a .placer) (l .s) pw ph (l .widths) (l .heights) in
+    let p = placerOf (a .placer) (l .s) (a .prev-widths .now) (a .prev-heights .now) (l .widths) (l .heights) in
     let em = c .before .before .before .before .before .before .before .run-record .ensures ∙ ap (λ (x : Record). recordResult p (a .spacing) x) (c .before .before .before .before .before .before .before .before .cached-record .ensures) in
-    let r = room-left (a .text .now) (a .spacing) (l .left) (l .n) (l .at) (l .w) p (l .out) _ (l .inv .5) (c .before .before .before .before .before .before .before .before .before .before .before .before .loop-test .taken) (c .before .before .before .before .before .before .before .before .before .before .before .if1 .left) _ em (l .inv .3) in
-    ((omega (arith, r), result-few (a .text .now) (a .spacing) (l .left) (l .n) (l .at) (l .w) p (l .out) _ (l .inv .5) (c .before .before .before .before .before .before .before .before .before .before .before .before .loop-test .taken) (c .before .before .before .before .before .before .before .before .before .before .before .if1 .left) _ em), result-in-ticks (a .text .now) (a .spacing) (l .left) (l .n) (l .at) (l .w) p (l .out) _ (l .inv .5) (c .before .before .before .before .before .before .before .before .before .before .before .before .loop-test .taken) (c .before .before .before .before .before .before .before .before .before .before .before .if1 .left) _ em (c .before .if2 .left))
+    let t = turn (a .text .now) (a .spacing) (l .left) (l .n) (l .at) (l .w) p (l .out) _ (l .inv .5) (c .before .before .before .before .before .before .before .before .before .before .before .before .loop-test .taken) (c .before .before .before .before .before .before .before .before .before .before .before .if1 .left) _ em in
+    let r = t .room (l .inv .3) in
+    ((omega (arith, r), t .few), t .in-ticks (c .before .if2 .left))
 
 add-n : tie.Need-add-n Inv-loop μ-loop
 add-n c = search (needs, c .before .before .before .before .before .before .before .before .before .before .before .before .before .before .before .before .loop .inv .2, c .before .before .before .before .before .before .before .before .before .before .before .before .before .before .before .loop-test .taken, c .before .before .before .before .before .before .before .before .before .before .before .before .before .before .before .before .before .before .before .before .before .before .before .pre .1 .0 .1)
@@ -85,23 +81,20 @@ loop-again : tie.Need-loop-again Inv-loop μ-loop
 loop-again c =
     let a = c .before .before .before .before .before .before .before .before .before .before .before .before .before .before .before .before .before .before .before .before .before .before .before .args in
     let l = c .before .before .before .before .before .before .before .before .before .before .before .before .before .before .before .before .loop in
-    let pw = a .prev-widths .now in
-    let ph = a .prev-heights .now in
-    let p = placerOf (a .placer) (l .s) pw ph (l .widths) (l .heights) in
+    let p = placerOf (a .placer) (l .s) (a .prev-widths .now) (a .prev-heights .now) (l .widths) (l .heights) in
     let em = c .before .before .before .before .before .before .before .before .before .before .run-record .ensures ∙ ap (λ (x : Record). recordResult p (a .spacing) x) (c .before .before .before .before .before .before .before .before .before .before .before .cached-record .ensures) in
+    let t = turn (a .text .now) (a .spacing) (l .left) (l .n) (l .at) (l .w) p (l .out) _ (l .inv .5) (c .before .before .before .before .before .before .before .before .before .before .before .before .before .before .before .loop-test .taken) (c .before .before .before .before .before .before .before .before .before .before .before .before .before .before .if1 .left) _ em in
     let e = c .next-record .ensures in
     let u = c .before .before .put .ensures in
     let k = c .before .before .put .kept .0 in
-    let r = room-left (a .text .now) (a .spacing) (l .left) (l .n) (l .at) (l .w) p (l .out) _ (l .inv .5) (c .before .before .before .before .before .before .before .before .before .before .before .before .before .before .before .loop-test .taken) (c .before .before .before .before .before .before .before .before .before .before .before .before .before .before .if1 .left) _ em (l .inv .3) in
-    (k ∙ l .inv .0, rw e (next-within (a .text .now) (l .at)), omega (arith, l .inv .2, c .before .before .before .before .before .before .before .before .before .before .before .before .before .before .before .loop-test .taken), rw (e, u .0) (omega (arith, r, k)), record { none = moved-unfaulted (a .text .now) (a .spacing) (l .left) (l .n) (l .at) (l .w) p (l .out) _ (l .inv .5) (c .before .before .before .before .before .before .before .before .before .before .before .before .before .before .before .loop-test .taken) (c .before .before .before .before .before .before .before .before .before .before .before .before .before .before .if1 .left) _ em (c .before .before .before .before .if2 .left); cols = c .before .before .before .before .before .before .before .before .before .before .run-record .kept .1 .1 .1 .1 .0 ∙ l .inv .4 .cols; rows = c .before .before .before .before .before .before .before .before .before .before .run-record .kept .1 .1 .1 .1 .1 .0 ∙ l .inv .4 .rows }, rw (e, u .0, u .1) (walk-goes-on (a .text .now) (a .spacing) (l .left) (l .n) (l .at) (l .w) p (l .out) _ (l .inv .5) (c .before .before .before .before .before .before .before .before .before .before .before .before .before .before .before .loop-test .taken) (c .before .before .before .before .before .before .before .before .before .before .before .before .before .before .if1 .left) _ em (c .before .before .before .before .if2 .left)), rw e (still-cached (a .text .now) (a .sizes .now) (l .at) (l .n) (l .left) (l .inv .6)))
+    let r = t .room (l .inv .3) in
+    (k ∙ l .inv .0, rw e (next-within (a .text .now) (l .at)), omega (arith, l .inv .2, c .before .before .before .before .before .before .before .before .before .before .before .before .before .before .before .loop-test .taken), rw (e, u .0) (omega (arith, r, k)), record { none = t .unfaulted (c .before .before .before .before .if2 .left); cols = c .before .before .before .before .before .before .before .before .before .before .run-record .kept .1 .1 .1 .1 .0 ∙ l .inv .4 .cols; rows = c .before .before .before .before .before .before .before .before .before .before .run-record .kept .1 .1 .1 .1 .1 .0 ∙ l .inv .4 .rows }, rw (e, u .0, u .1) (t .goes-on (c .before .before .before .before .if2 .left)), rw e (still-cached (a .text .now) (a .sizes .now) (l .at) (l .n) (l .left) (l .inv .6)))
 
 returns-3 : tie.Need-returns-3 Inv-loop μ-loop
 returns-3 c =
     let a = c .before .before .before .before .before .before .before .before .args in
     let l = c .before .loop in
-    let pw = a .prev-widths .now in
-    let ph = a .prev-heights .now in
-    let p = placerOf (a .placer) (l .s) pw ph (l .widths) (l .heights) in
+    let p = placerOf (a .placer) (l .s) (a .prev-widths .now) (a .prev-heights .now) (l .widths) (l .heights) in
     as-walked _ _ _ _ _ _ _ _ (c .before .before .before .before .before .before .before .before .pre .1 .1 .0) (walk-is-full (a .text .now) (a .spacing) (l .left) (l .n) (l .at) (l .w) p (l .out) _ (l .inv .5) (c .loop-test .left))
 
 pub run-spec : {M : Type 1} → statement M

@@ -52,6 +52,6 @@ module _ (l : LaidOut) (p : Passed) (exit : List ℤ) (r : Returns l p exit) whe
       let g : m ≡ l .outcome .memory = e₄ ∙ ap (λ (q : Passed). q .memory) (r .answer) in
       rw (e₁ ∙ r .number, e₂ ∙ r .at, r .slice, d, g)
 
--- with the flag
+-- with the save flag
 pub with-save : (a b : Exported) (c d : Bool) → a ≡ b → c ≡ d → _≡_ {A = Exported × Bool} (a, c) (b, d)
 with-save a b c d e f = rw (e, f)

@@ -1,4 +1,4 @@
--- A text longer than any sheet is laid out as its first 50,177 bytes are. Assumes nothing.
+-- RULES 6.23: a text longer than any sheet is laid out as its first 50,177 bytes are. Assumes nothing.
 use Prim.Native.Nat.{ℕ}
 use mathlib.Core.Path.{_≡_, refl, ap, _∙_}
 use mathlib.Core.Bool.{Bool, true, false, cond, _&&_}

@@ -1,4 +1,4 @@
--- What the calls of include/platelist.h answer, and leave in the caller's memory.
+-- RULES 7.11: what the calls of include/platelist.h answer, and leave in the caller's memory.
 use Prim.Native.Nat.{ℕ}
 use mathlib.Core.Bool.{Bool, cond}
 use mathlib.Core.List.{List}
@@ -13,6 +13,7 @@ use Rattle.sheet.specs.Ticks.{inTicks}
 use Rattle.sheet.specs.Slices.{edges, LaidOut, laid}
 use Rattle.listing.specs.Lists.{listOf}
 
+-- ---- RULES 7.11: platelist_pass and platelist_settle
 -- the refusal's number and record (0 and 0: accepted), the slice of the rectangles, the plate's edges in ticks, the memory
 pub record Exported : Type 0 where
   pub number : ℕ
@@ -24,13 +25,15 @@ pub record Exported : Type 0 where
 abbrev pub exported : LaidOut → Exported
 exported l = record { number = l .outcome .number; at = l .outcome .at; places = l .slice; plate = edges (inTicks tick (l .outcome .plate)); memory = l .outcome .memory }
 
--- one pass, with the memory (where it is known) and sizing or not; and whether the memory is to be saved
+-- one pass, with the memory where it is known, sizing or not; and the save flag
 abbrev pub onePass : List ℕ → Bool → Memory → Bool → List ℤ → Exported × Bool
 onePass text known m sizing out = (exported (laid text known m sizing out), laid text known m sizing out .outcome .save)
 
--- a text's length, and a slice with the text from its start where all of it has room; else the slice as it was
+-- ---- RULES 7.11: platelist_list
+-- how long some bytes are, and a slice with them from its front where all of them have room; else the slice as it was
 unfoldable pub whole : List ℕ → List ℕ → ℕ × List ℕ
 whole out l = (length l, cond (leb (length l) (length out)) (sets out 0 l) out)
 
+-- of a text's list
 abbrev pub listInto : List ℕ → List ℕ → ℕ × List ℕ
 listInto out text = whole out (listOf text)

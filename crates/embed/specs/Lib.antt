@@ -1,2 +1,2 @@
--- What a reader must believe of this crate: what each call leaves in the caller's memory.
+-- What a reader must believe of this crate: what each call answers, and leaves in the caller's memory (RULES 7.11).
 pub mod Calls

@@ -1,4 +1,4 @@
-// What a pass gives, put where the caller wants it.
+// What a pass gives, put into the caller's memory.
 use bytes::copy;
 use emath::Rect;
 use grid::Memory;

@@ -1,4 +1,5 @@
-// The calls of include/platelist.h, for C and Rust: from a sheet's text to rectangles, plate, memory, list and drawing, all in the caller's memory.
+// The calls of include/platelist.h, for C and Rust (RULES 7.11): a sheet's text in; rectangles, plate, memory, list and drawing out, all
+// in the caller's memory.
 mod exports;
 
 use drawing::MAX_DRAWING;
@@ -17,7 +18,7 @@ ghost use Rattle.listing.specs.Lists.{listOf, settled};
 ghost use Rattle.grid.specs.Memories.{memoryOf};
 ghost use Rattle.embed.specs.Calls.{exported, onePass, listInto};
 
-// One pass: with the memory in the arrays where it is known, sizing or not. It answers the number, 0 where the sheet is accepted.
+// One pass, with the memory in the arrays where it is known, sizing or not. It answers the number, 0 where the sheet is accepted.
 #[no_mangle]
 pub extern "C" fn platelist_pass(
     text: &[u8],
@@ -69,7 +70,7 @@ pub extern "C" fn platelist_list(text: &[u8], out: &mut [u8]) -> usize
     n
 }
 
-// The drawing, an SVG, from the array's start, and its length, at most MAX_DRAWING.
+// The drawing, an SVG, from the array's front on, and its length, at most MAX_DRAWING.
 #[no_mangle]
 pub extern "C" fn platelist_draw(text: &[u8], out: &mut [u8; MAX_DRAWING]) -> usize
     ensures { λ n. ⌜ ((n, now (out .exit)) ≡ drawnIn (now (out .entry)) (listOf (now (text .entry)))) × (n ≤ 300000) ⌝ }

@@ -14,7 +14,7 @@ use Rattle.records.specs.declared.Record.{Record}
 use Rattle.records.specs.declared.Record.the-variants.{Wrong}
 use Rattle.listing.specs.Implementation.ListWriter.{mark}
 
--- a record with w W, or none
+-- a record that counts w W, or is malformed
 data Holds (w : ℕ) : Record → Type 0 where
   so : {r : Record} → widget r ≡ w → Holds w r
   wrong : Holds w Wrong

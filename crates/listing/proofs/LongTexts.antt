@@ -1,4 +1,4 @@
--- A text longer than any sheet has the list of its first 50,177 bytes: so long a buffer answers every input rightly. Assumes nothing.
+-- RULES 6.23: a text longer than any sheet has the list of its first 50,177 bytes, so a buffer of that length is enough. Assumes nothing.
 use Prim.Native.Nat.{ℕ}
 use mathlib.Core.Path.{_≡_, refl, ap, _∙_}
 use mathlib.Core.Bool.{Bool, true, false}

@@ -1,4 +1,4 @@
--- Each W of a text has a control, and what stands after H says whether there is a grid. And a refusal's record is never beyond the text.
+-- A text's W are the controls of its sheet, what stands after H says whether there is a grid, and a refusal's record is at most 600.
 -- Assumes nothing.
 use Prim.Native.Nat.{ℕ, suc, _+_, _*_, _≤_}
 use mathlib.Core.Path.{_≡_, refl, ap, sym, _∙_}

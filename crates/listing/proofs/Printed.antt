@@ -1,4 +1,4 @@
--- What a call of `pass` gives can be printed, and what the code then puts is the list. Assumes nothing.
+-- What a call of `pass` gives can be printed, and what the code then writes is the list. Assumes nothing.
 use Prim.Native.Nat.{ℕ, zero, suc, _+_, _≤_, _<_}
 use mathlib.Core.Path.{_≡_, refl, ap, sym, _∙_, subst}
 use mathlib.Core.Bool.{Bool, true, false, cond, _&&_, true≢false}
@@ -116,7 +116,7 @@ module _ (text : List ℕ) (known : Bool) (m : Memory) (sizing : Bool) (out : Li
           (record { well = v .steps; from = omega arith; few = omega (arith, few-records text); others = s .others; there = s .slice; whole = i .cells; all = omega (arith, a, b, d); room = omega (arith, a, d, t, start, room) })
           (i .plate) (f (s .number)) (omega (arith, start, room)) (omega (arith, a, d, t)))
 
-      -- 1 to 3, or the pass's own outcome
+      -- one of 1 to 3, or the pass's own outcome
       by-check : (k : Checked) → checked text 4096 ≡ k → laid text known m sizing out .outcome ≡ afterCheck k text known m sizing out .outcome
       unfolding laid
       by-check k e = ap (λ (x : Checked). afterCheck x text known m sizing out .outcome) (ap (λ (n : ℕ). checked text n) full ∙ e)
@@ -246,7 +246,7 @@ module _ (text : List ℕ) (out between : List ℤ) (p : Passed) (full : length 
         puts-call text true (passes 5 (sheetIn text) emptyMemory 0 .memory) false between q exit with-first memory-second kept P start room (λ (e : sheetIn text .heading .«has_grid» ≡ false). absurd (true≢false (sym (sym e ∙ again h .grid)))) few
         ∙ ap (λ (l : List ℕ). after P l) (which-list true h)
 
--- ---- the length, and the slice
+-- ---- the length, and the array
 pub in-slice : (n : ℕ) (out o l : List ℕ) (P : Put) → record { at = n; out = o } ≡ P → Within P 40802 → P ≡ after (record { at = 0; out = out }) l
     → (_≡_ {A = ℕ × List ℕ} (n, o) (length l, sets out 0 l)) × (n ≤ 40802)
 in-slice n out o l P e w f =

@@ -110,7 +110,7 @@ whole-at xs i none h = absurd (omega arith)
 whole-at xs zero (more e w) h = e
 whole-at xs (suc i) (more {xs = ys} e w) h = whole-at ys i w (omega arith)
 
--- ---- what is put stays within the slice
+-- ---- what is written stays within the array
 abbrev pub Within : Put → ℕ → Type 0
 Within p n = (p .at ≤ n) × (length (p .out) ≡ n)
 

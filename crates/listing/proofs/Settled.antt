@@ -127,7 +127,7 @@ outcome-is : (text : List ℕ) (known : Bool) (m : Memory) (sizing : Bool) (out 
 unfolding laid afterCheck
 outcome-is text known m sizing out r w e = rw e
 
--- a sheet that 1 to 3 do not turn back gives what is printed of it
+-- where none of 1 to 3 applies it is the pass that is printed
 pub settled-printed : (text : List ℕ) (out : List ℤ) (r w : ℕ) → checked text (length out) ≡ checked-of.Accepted r w → settled text out .outcome ≡ printed (sheetIn text)
 unfolding settled settledFrom printed passes
 settled-printed text out r w e = go (eqb (first text out .outcome .number) 0 && sheetIn text .heading .«has_grid») ∙ ap (λ (o : Outcome). cond (eqb (o .number) 0 && sheetIn text .heading .«has_grid») again-pass first-pass) one

@@ -1,4 +1,4 @@
--- What the code puts, line after line, is the list: where the slice has room and each number a text. Assumes nothing.
+-- What the code writes, line after line, is the list, where the array has room and each number a text. Assumes nothing.
 use Prim.Native.Nat.{ℕ, zero, suc, _+_, _*_, _≤_, _<_}
 use mathlib.Core.Path.{_≡_, refl, ap, sym, _∙_}
 use mathlib.Core.Bool.{Bool, true, false, cond}
@@ -34,7 +34,7 @@ use Rattle.listing.specs.Implementation.ListWriter.{Put, bytes, putLine,
 use Rattle.listing.proofs.Letters.{mark-is}
 use Rattle.listing.proofs.Texts.{edges-texts, none-left, widget-texts, entry-texts, refusal-texts}
 
--- bytes one after the other
+-- these bytes written from the place where the next line begins
 abbrev pub after : Put → List ℕ → Put
 after p l = record { at = p .at + length l; out = sets (p .out) (p .at) l }
 
@@ -107,7 +107,7 @@ next-places cells k c xs e =
     let n : 8 * (k + 1) ≡ 8 * k + 8 = omega arith in
     ap (λ (i : ℕ). drop i cells) n ∙ sym (drop-drop 8 (8 * k) cells) ∙ ap (λ (l : List ℤ). drop 8 l) e
 
--- the records without a fault among them, and a cell for each W
+-- records without a fault, and a cell for each W among them
 pub record Ready (left n k : ℕ) (u : List ℕ) (cells : List ℤ) (p : Put) (cs : List Cell) : Type 0 where
   pub well : wrongFrom n (recordsFrom left u) ≡ 0
   pub from : 0 < n

@@ -1,4 +1,4 @@
-// Lines one after the other: each function answers where the next line begins.
+// The lines of a list (RULES 7.4 to 7.6): each function answers where the next line begins.
 use emath::Rect;
 use grid::Memory;
 use records::MAX_RECORDS;
@@ -20,6 +20,7 @@ ghost use Rattle.sheet.specs.Ticks.{ticks, inTicks};
 ghost use Rattle.sheet.specs.Slices.{edges};
 ghost use Rattle.listing.specs.Implementation.ListWriter.{putLine, mark, putWidget, putWidgets, putEntries, putMemory, Whole, WholeMemory};
 
+// Nothing is written where the line has no room, or a number no text.
 fn put_line(out: &mut [u8], at: usize, letter: u8, numbers: &[i32]) -> usize
     ensures { λ r. ⌜ record { at = r; out = now (out .exit) } ≡ putLine letter (now (numbers .entry)) (record { at = at; out = now (out .entry) }) ⌝ }
 {
@@ -60,7 +61,7 @@ fn widget_at(text: &[u8], at: usize) -> usize
     0
 }
 
-// W number k, of record `number`, where there is one.
+// The line of W number k, which is record `number`, where `here` is 1.
 fn put_widget(
     out: &mut [u8],
     at: usize,
@@ -90,7 +91,7 @@ fn put_widget(
     put_line(out, at, b'W', &numbers)
 }
 
-// A line for each W, with its record's number: of at most `most` records from `from` on, the first of them record `first`.
+// A line for each W among at most `most` records from `from` on, the first of them record `first`.
 fn put_widgets_from(
     out: &mut [u8],
     text: &[u8],

@@ -1,4 +1,4 @@
-// The list of a text: one pass, or two with a grid over one slice, and the lines of the last.
+// The list of a text (RULES 7.1, 7.3, 7.7): one pass, or with a grid two over one slice, and the lines of the last.
 use crate::MAX_LIST;
 use crate::PLACES;
 use crate::lines::put_memory;
@@ -56,7 +56,7 @@ fn put_passed(out: &mut [u8], text: &[u8], cells: &[i32], p: Passed) -> usize
     }
 }
 
-// One pass over the slice, or two with a grid, the second with the first's memory: what the last one gives.
+// One pass, or with a grid a second one with the memory of the first: what the last one gives, and its rectangles in `cells`.
 pub fn settle(text: &[u8], cells: &mut [i32]) -> Passed
     ensures { λ p. ⌜ Returns (settled (now (text .entry)) (now (cells .entry))) p (now (cells .exit)) ⌝ }
 {
@@ -71,7 +71,7 @@ pub fn settle(text: &[u8], cells: &mut [i32]) -> Passed
     first
 }
 
-// Writes the list from the slice's start, and answers its length. The rest of the slice stays as it was.
+// Writes the list from the array's front, and answers its length. The rest of the array stays as it was.
 pub fn print(text: &[u8], out: &mut [u8; MAX_LIST]) -> usize
     ensures { λ n. ⌜ ((n, now (out .exit)) ≡ listIn (now (out .entry)) (now (text .entry))) × (n ≤ 40802) ⌝ }
 {

@@ -1,4 +1,4 @@
--- Lengths leave the text as points, exactly n / 32. Assumes nothing.
+-- A length of n ticks is read as exactly n / 32 points (RULES 6.6). Assumes nothing.
 use Prim.Native.Nat.{ℕ, _+_, _*_, _≤_}
 use mathlib.Core.Path.{_≡_, refl, ap, sym, _∙_}
 use mathlib.Core.List.{List}

@@ -1,5 +1,5 @@
--- A record is made of its first 98 bytes, H's length; so what 1 to 3 say of a text longer than 512 such records shows in its first 50,177
--- bytes. Assumes nothing.
+-- RULES 6.23: no record has more than 98 bytes, which H has; so whether 1 to 3 apply to a text that is longer than 512 of them shows in
+-- its first 50,177 bytes. Assumes nothing.
 use Prim.Native.Nat.{ℕ, zero, suc, _+_, _-_, _*_, _≤_, _<_}
 use mathlib.Core.Path.{_≡_, refl, ap, sym, _∙_}
 use mathlib.Core.List.{List, [], _∷_}
@@ -217,7 +217,7 @@ next-few s = go (hasGrid s)
     go true = omega (arith, near s 0, near s (nextAt s 0))
     go false = omega (arith, near s 0)
 
--- ---- 1 to 3
+-- ---- refusals 1 to 3
 some : (s : List ℕ) (room : ℕ) → 50176 < length s → sheetFault s room ≡ cond (eqb (misplaced s) 0) (record { number = number.tooLong; at = 513 }) (record { number = number.malformed; at = misplaced s })
 unfolding sheetFault
 some s room h =

@@ -23,7 +23,7 @@ use Rattle.records.specs.Sheets.{recordsFrom, after, stepsLeft, records,
 use Rattle.records.specs.Implementation.SizeCache.{isStep}
 use Rattle.records.proofs.Places.{next-is-rest}
 
--- the rest of the text, from `at`, has the sheet's first fault after its heading, and its W and records are those that are missing
+-- from `at` on: the first fault there is the sheet's first after its heading, and the W and records there, with those read, are all of them
 pub record Reached (s : List ℕ) (at k w left : ℕ) : Type 0 where
   pub fault : wrongFrom (k + 1) (recordsFrom left (drop at s)) ≡ wrongFrom (headingIn s .records + 1) (records s)
   pub all-widgets : w + widgets (recordsFrom left (drop at s)) ≡ widgets (records s)

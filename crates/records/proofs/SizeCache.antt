@@ -1,5 +1,5 @@
--- The cache of W sizes: the array as the check goes through a text; and that of an accepted sheet each W says what stands in the places of
--- its record. Assumes nothing.
+-- The cache of W sizes: what the array holds as the check goes through a text, and that after it each W of an accepted sheet has its size
+-- there. Assumes nothing.
 use Prim.Native.Nat.{ℕ, zero, suc, _+_, _-_, _≤_, _<_}
 use mathlib.Core.Path.{_≡_, refl, ap, sym, _∙_}
 use mathlib.Core.List.{List, [], _∷_}
@@ -27,7 +27,7 @@ use Rattle.records.proofs.Reached.{records-few, records-step, step-on, 
 use Rattle.records.proofs.Prefixes.{few-records}
 use Rattle.records.proofs.Checks.{clear}
 
--- ---- one record: its own two places, no other
+-- ---- one record changes its own two places and no other
 step-length : (ss : List Float) (n : ℕ) (st : Step) → length (storedStep ss n st) ≡ length ss
 unfolding storedStep
 step-length ss n (Widget x y) = length-set (set ss n x) (513 + n) y ∙ length-set ss n x
@@ -44,7 +44,7 @@ unfolding stored
 stored-length ss n (Steps st) = step-length ss n st
 stored-length ss n Wrong = refl
 
--- the two places of record m hold the same
+-- the places of record m hold the same in both arrays
 abbrev Same : List Float → List Float → ℕ → Type 0
 Same ss ts m = (getD ss m nan ≡ getD ts m nan) × (getD ss (513 + m) nan ≡ getD ts (513 + m) nan)
 
@@ -62,7 +62,7 @@ step-below ss n m (MinWidth x) h l = (refl, refl)
 step-below ss n m (MinHeight x) h l = (refl, refl)
 step-below ss n m RowEnd h l = (refl, refl)
 
--- ---- a W says what its places then hold
+-- ---- its places then hold the size of a W
 is-widget : (u : List ℕ) → letter u ≡ letters.W → recordOf u ≡ widgetRecord u
 unfolding recordOf
 is-widget u h = rw h
@@ -88,7 +88,7 @@ is-cached u ss n p l h = go (isLength (lengthIn u 0) && isLength (lengthIn u 1) 
     go true x y e = rw e (stands ss n x y l)
     go false x y e = absurd (no-step (ap (λ (r : Record). isStep r) (sym e) ∙ p))
 
--- ---- all of them
+-- ---- all records
 cached-length : (n : ℕ) (rs : List Record) (ss : List Float) → length (cachedFrom n rs ss) ≡ length ss
 unfolding cachedFrom
 cached-length n [] ss = refl
@@ -117,7 +117,7 @@ cached-stops n Wrong rs ss e = refl
 same-cached : (u : List ℕ) (ss ts : List Float) (n : ℕ) → Same ts ss n → IsCached u ss n → IsCached u ts n
 same-cached u ss ts n e h w = h w ∙ rw (e .0, e .1)
 
--- of the record at the front, what the rest leaves as it is
+-- the rest leaves the places of the record at the front as they are
 stays-cached : (u : List ℕ) (rs : List Record) (ss : List Float) (n : ℕ) → isStep (recordOf u) ≡ true → n + 1 + length rs ≤ 513 → 513 + n < length ss → IsCached u (cachedFrom (n + 1) rs (stored ss n (recordOf u))) n
 stays-cached u rs ss n e few l =
     let mid = stored ss n (recordOf u) in
@@ -143,7 +143,7 @@ all-cached (suc left) (b ∷ s) ss n N m few l =
       all-cached left (rest (b ∷ s)) (stored ss n r) (n + 1) (omega arith) (step-on n r rs 0 e m) (omega arith) (stored-length ss n r ∙ l),
     )
 
--- of a text that is accepted every W says what the check leaves in its places
+-- of an accepted text the check leaves the size of every W in its places
 pub cached-in : (s : List ℕ) (room k w : ℕ) (ss : List Float) → length ss ≡ 1026 → checked s room ≡ Accepted k w → CachedIn s (cachedBy s ss)
 unfolding cachedBy
 cached-in s room k w ss l e =
@@ -189,7 +189,7 @@ module _ (s : List ℕ) (ss : List Float) (at k left : ℕ) (all : List Float) (
     pub cached-stopped : isStep r ≡ false → ss ≡ all
     cached-stopped e = sym (cached-stops (k + 1) r (recordsFrom (left - 1) (drop (nextAt s at) s)) ss e) ∙ front
 
--- ---- as a walk goes through it
+-- ---- as a run goes through it
 none-cached : (left : ℕ) (ss : List Float) (n : ℕ) → AreCached left [] ss n
 unfolding AreCached
 none-cached zero ss n = tt

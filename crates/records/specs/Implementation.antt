@@ -1,2 +1,2 @@
--- How the check caches the sizes of W. Not part of the specification.
+-- The cache of W sizes, for speed. Not part of the specification.
 pub mod SizeCache

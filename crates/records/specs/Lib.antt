@@ -1,4 +1,5 @@
--- What a reader must believe of this crate: what a record says, and which sheets are turned back before any is laid out.
+-- What a reader must believe of this crate: what a record says (RULES 6.5 to 6.11), which sheets are refused before anything is laid out
+-- (RULES 8.6 to 8.8), and records as text (RULES 9.1).
 pub mod Parts
 pub mod Records
 pub mod Headings

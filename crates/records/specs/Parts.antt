@@ -1,5 +1,4 @@
--- Document 01, "The sheet": "Each record is one letter, then its fields, …, then one LF." What the record at the front of a text is made
--- of; its fields count from 0.
+-- RULES 6.5 to 6.7, 6.9: the parts of the record at the front of a text: its letter, its fields, counted from 0 here, and its end.
 use Prim.Native.Nat.{ℕ, _+_, _*_}
 use mathlib.Core.List.{List}
 use mathlib.Core.Bool.{Bool, true, false}
@@ -17,27 +16,31 @@ use Rattle.text.specs.declared.Field.the-variants as field
 use Rattle.records.specs.declared.Length.{Length}
 use Rattle.records.specs.declared.Length.the-variants.{Points, Blank, Wrong}
 
+-- ---- RULES 6.5: the letter and the end
 -- the letter; 0 where there is none
 abbrev pub letter : List ℕ → ℕ
 letter s = getD s 0 0
 
--- "then one LF", after n fields
+-- whether an LF stands after n fields
 unfoldable pub ends : List ℕ → ℕ → Bool
 ends s n = eqb (getD s (1 + 8 * n) 0) letters.LF
 
--- ---- "Lengths are in ticks, magnitude at most 2,097,152."
+-- ---- RULES 6.6: a length
 -- z ticks in points: z / 32
 unfoldable pub points : ℤ → Float
 points z = val tick z
 
+-- what a field holds, in points
 unfoldable pub inPoints : Field → Length
 inPoints field.Blank = Blank
 inPoints (field.Number z) = Points (points z)
 inPoints field.Wrong = Wrong
 
+-- field i, read with the limit
 unfoldable pub lengthIn : List ℕ → ℕ → Length
 lengthIn s i = inPoints (fieldAt 2097152 s (1 + 8 * i))
 
+-- whether it is a length, and which; zero where it is none
 unfoldable pub isLength : Length → Bool
 isLength (Points x) = true
 isLength Blank = false
@@ -48,7 +51,7 @@ lengthValue (Points x) = x
 lengthValue Blank = zeroF
 lengthValue Wrong = zeroF
 
--- "maximum width and height (blank: infinite)"
+-- ---- RULES 6.9: a maximum cell's length, +∞ where it is blank
 unfoldable pub isMaximum : Length → Bool
 isMaximum (Points x) = true
 isMaximum Blank = true
@@ -59,15 +62,18 @@ maximumValue (Points x) = x
 maximumValue Blank = inf false
 maximumValue Wrong = zeroF
 
--- ---- a number from `least` to `most`: a flag, a direction, an align, a column count, a row
+-- ---- RULES 6.7: a count from `least` to `most`: a flag, a direction, an align, a number of columns, a row
+-- field i, read with `most` as the limit
 unfoldable pub countIn : List ℕ → ℕ → ℕ → Field
 countIn s i most = fieldAt most s (1 + 8 * i)
 
+-- whether it reaches `least`
 unfoldable pub isCount : Field → ℤ → Bool
 isCount field.Blank least = false
 isCount (field.Number z) least = leZ least z
 isCount field.Wrong least = false
 
+-- the count; 0 where it is none
 unfoldable pub natural : ℤ → ℕ
 natural (pos n) = n
 natural (negsuc n) = 0

@@ -1,4 +1,4 @@
--- Document 01, "The sheet": what each letter's record says.
+-- RULES 6.5, 6.6, 6.8 to 6.10: what each letter's record says, and how long it is. Fields count from 0 here, from 1 in RULES.
 use Prim.Native.Nat.{ℕ, _+_, _*_, min}
 use mathlib.Core.List.{List}
 use mathlib.Core.Bool.{Bool, true, false, _&&_, cond}
@@ -24,14 +24,15 @@ use Rattle.records.specs.declared.Record.{Record}
 use Rattle.records.specs.declared.Record.the-variants.{Step as Steps, Wrong}
 use Rattle.records.specs.Parts.{letter, ends, lengthIn, isLength, lengthValue, isMaximum, maximumValue, countIn, isCount, countValue}
 
--- two lengths, fields i and i + 1
+-- ---- RULES 6.6: two lengths, fields i and i + 1
 unfoldable pub pairFits : List ℕ → ℕ → Bool
 pairFits s i = isLength (lengthIn s i) && isLength (lengthIn s (i + 1))
 
 unfoldable pub pairIn : List ℕ → ℕ → Vec2
 pairIn s i = record { x = lengthValue (lengthIn s i); y = lengthValue (lengthIn s (i + 1)) }
 
--- ---- H: "six layout fields (flags 0 or 1), max_rect's four edges, spacing across and down"
+-- ---- RULES 6.8, H: a layout, max_rect and the spacing
+-- a direction and an align, by the numbers of RULES 2.1 and 2.2
 unfoldable pub directionOf : ℕ → Direction
 directionOf n = either (eqb n 0) LeftToRight (either (eqb n 1) RightToLeft (either (eqb n 2) TopDown BottomUp))
   where
@@ -46,6 +47,7 @@ alignOf n = either (eqb n 0) Min (either (eqb n 1) Center Max)
     either true a b = a
     either false a b = b
 
+-- fields 0 to 5
 unfoldable pub layoutFits : List ℕ → Bool
 layoutFits s =
     isCount (countIn s 0 3) (pos 0) && isCount (countIn s 1 1) (pos 0) && isCount (countIn s 2 2) (pos 0)
@@ -61,25 +63,29 @@ layoutIn s = record {
   «cross_justify» = eqb (countValue (countIn s 5 1)) 1;
 }
 
+-- fields 6 to 9
 unfoldable pub rectIn : List ℕ → Rect
 rectIn s = record { left = pairIn s 6 .x; top = pairIn s 6 .y; right = pairIn s 8 .x; bottom = pairIn s 8 .y }
 
+-- whether all of it is as it should be
 unfoldable pub headingFits : List ℕ → Bool
 headingFits s = eqb (letter s) letters.H && (layoutFits s && (pairFits s 6 && pairFits s 8) && pairFits s 10 && ends s 12)
 
--- ---- G: "minimum cell width and height, maximum width and height (blank: infinite), columns 1 to 32 (blank: not named), start row 0 to
--- 127. No other field may be blank."
+-- ---- RULES 6.9, G: the smallest and the largest cell, the number of columns, the start row
+-- fields 2 and 3
 unfoldable pub maximaFit : List ℕ → Bool
 maximaFit s = isMaximum (lengthIn s 2) && isMaximum (lengthIn s 3)
 
 unfoldable pub maximaIn : List ℕ → Vec2
 maximaIn s = record { x = maximumValue (lengthIn s 2); y = maximumValue (lengthIn s 3) }
 
+-- field 4: it may be blank
 unfoldable pub isColumns : Field → Bool
 isColumns Blank = true
 isColumns (Number z) = leZ (pos 1) z
 isColumns WrongField = false
 
+-- what it says
 unfoldable pub optionsIn : List ℕ → GridOptions
 optionsIn s = record {
   «min_cell_size» = pairIn s 0;
@@ -88,23 +94,25 @@ optionsIn s = record {
   «start_row» = countValue (countIn s 5 127);
 }
 
+-- whether all of it is as it should be, but for the letter
 unfoldable pub gridFits : List ℕ → Bool
 gridFits s = pairFits s 0 && maximaFit s && isColumns (countIn s 4 32) && isCount (countIn s 5 127) (pos 0) && ends s 6
 
--- ---- the steps
+-- ---- RULES 6.10: the steps
+-- a record of n fields is this step where the fields fit and an LF stands after them
 unfoldable pub stepRecord : List ℕ → ℕ → Bool → Step → Record
 stepRecord s n fits step = cond (fits && ends s n) (Steps step) Wrong
 
--- "W width height"
+-- W, two lengths
 unfoldable pub widgetRecord : List ℕ → Record
 widgetRecord s =
     stepRecord s 2 (isLength (lengthIn s 0) && isLength (lengthIn s 1)) (Widget (lengthValue (lengthIn s 0)) (lengthValue (lengthIn s 1)))
 
--- a letter of one field: "S amount", "R height", …
+-- a letter with one length
 abbrev pub single : List ℕ → (Float → Step) → Record
 single s step = stepRecord s 1 (isLength (lengthIn s 0)) (step (lengthValue (lengthIn s 0)))
 
--- "S, R, L, K, N, T take one field"
+-- which of the six letters it is
 unfoldable pub singleRecord : List ℕ → ℕ → Record
 singleRecord s b =
     cond (eqb b letters.S) (single s (λ x. Space x))
@@ -115,7 +123,7 @@ singleRecord s b =
     (cond (eqb b letters.T) (single s (λ x. MinHeight x))
     Wrong)))))
 
--- the record at the front of a text, where a step may stand: W, E, or a letter of one field
+-- the record at the front of a text, where a step may stand: W, E, or a letter with one length; and the one at a place
 unfoldable pub recordOf : List ℕ → Record
 recordOf s =
     cond (eqb (letter s) letters.W) (widgetRecord s)
@@ -125,7 +133,7 @@ recordOf s =
 unfoldable pub recordAt : List ℕ → ℕ → Record
 recordAt s at = recordOf (drop at s)
 
--- ---- how long a record is: the letter, eight columns for each field, the LF
+-- ---- RULES 6.5: how long a record is: the letter, eight columns for each field, the LF
 unfoldable pub fieldCount : ℕ → ℕ
 fieldCount b =
     of (eqb b letters.H) 12 (of (eqb b letters.G) 6 (of (eqb b letters.W) 2 (of (eqb b letters.S) 1 (of (eqb b letters.R) 1 (of (eqb b letters.L) 1

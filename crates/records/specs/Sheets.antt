@@ -1,4 +1,4 @@
--- Document 01, "The sheet" and "Turned back", numbers 1 to 3: the checks over a whole sheet, before any record is laid out.
+-- RULES 6.11, 8.3, 8.6 to 8.8: a text as records, and refusals 1 to 3, which are looked for over all of it before anything is laid out.
 use Prim.Native.Nat.{ℕ, zero, suc, _+_, _-_, _*_}
 use mathlib.Core.List.{List, [], _∷_}
 use mathlib.Core.Bool.{Bool, true, false, cond}
@@ -15,7 +15,7 @@ use Rattle.records.specs.declared.Checked.the-variants.{Accepted, Refuse
 use Rattle.records.specs.Records.{recordOf, rest}
 use Rattle.records.specs.Headings.{headingIn, headingFault}
 
--- ---- the text as records
+-- ---- RULES 6.11: the text as records
 -- the first `left` records, or as many as there are
 unfoldable pub recordsFrom : ℕ → List ℕ → List Record
 recordsFrom zero s = []
@@ -27,7 +27,7 @@ unfoldable pub after : ℕ → List ℕ → List ℕ
 after zero s = s
 after (suc left) s = after left (rest s)
 
--- "at most 512 records": those after the heading, and what follows them
+-- all records of a sheet are 512 at most; how many may follow the heading, these records, and the text after them
 abbrev pub mostRecords : ℕ
 mostRecords = 512
 
@@ -40,18 +40,18 @@ records s = recordsFrom (stepsLeft s) (drop (headingIn s .next) s)
 abbrev pub afterAll : List ℕ → List ℕ
 afterAll s = after (stepsLeft s) (drop (headingIn s .next) s)
 
--- ---- 1
--- the first that is no step, the first of them being record k; 0 for none
+-- ---- RULES 8.6: number 1
+-- of some records, the first being record k, the first that is no step; 0 for none
 unfoldable pub wrongFrom : ℕ → List Record → ℕ
 wrongFrom k [] = 0
 wrongFrom k (Steps st ∷ rs) = wrongFrom (k + 1) rs
 wrongFrom k (Wrong ∷ rs) = k
 
--- the first record that is malformed, out of its place or out of its range
+-- of a text, the first record that is malformed; 0 for none
 unfoldable pub misplaced : List ℕ → ℕ
 misplaced s = orElse (headingFault s) (wrongFrom (headingIn s .records + 1) (records s))
 
--- ---- 3
+-- ---- RULES 8.8: how many W there are, for number 3
 -- 1 for a W
 unfoldable pub widgetStep : Step → ℕ
 widgetStep (Widget w h) = 1
@@ -71,18 +71,18 @@ unfoldable pub widgets : List Record → ℕ
 widgets [] = 0
 widgets (r ∷ rs) = widget r + widgets rs
 
--- ---- all three, in rising order
+-- ---- RULES 8.7: whether the text ends, for number 2
 abbrev pub isEmpty : {A : Type 0} → List A → Bool
 isEmpty [] = true
 isEmpty (x ∷ xs) = false
 
+-- ---- RULES 8.3: all three, in rising order
 -- a refusal's number, 0 for none, and the record that it is at
 pub record Fault : Type 0 where
   pub number : ℕ
   pub at : ℕ
 
--- 1: "a record is malformed, misplaced or out of field range, among the first 512; an empty sheet, at record 1". 2: "any byte after the
--- 512th record, named 513". 3: "slice shorter than 8 per W", at record 1.
+-- of a text and a slice with so many places: 1 at the malformed record, 2 at record 513, 3 at record 1 (RULES 8.6 to 8.8)
 unfoldable pub sheetFault : List ℕ → ℕ → Fault
 sheetFault s room =
     cond (eqb (misplaced s) 0)

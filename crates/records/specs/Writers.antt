@@ -1,4 +1,4 @@
--- A record as text: its letter, its fields and one LF. Lengths are in ticks.
+-- RULES 9.1: records as text, for sheets that definitions spell out. Lengths are in ticks.
 use mathlib.Core.List.{List, [], _∷_, _++_}
 use Prim.Native.Nat.{ℕ}
 use lib.IntN.{ℤ}
@@ -6,11 +6,12 @@ use lib.ListN.{replicate}
 use Rattle.text.specs.Letters as letters
 use Rattle.text.specs.Lines.{line, texts}
 
--- six layout fields, max_rect's edges, the spacings
+-- ---- RULES 9.1: one function for each letter
+-- the layout's six numbers, max_rect's edges, the spacings
 abbrev pub H : List ℤ → List ℤ → List ℤ → List ℕ
 H layout edges spacing = line letters.H (layout ++ (edges ++ spacing))
 
--- the minimum cell and the start row; maximum and columns are blank
+-- the minimum cell and the start row; the other fields are blank
 abbrev pub G : ℤ → ℤ → ℤ → List ℕ
 G width height row = letters.G ∷ (texts (width ∷ height ∷ []) ++ (replicate 24 32 ++ (texts (row ∷ []) ++ (letters.LF ∷ []))))
 

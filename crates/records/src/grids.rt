@@ -1,4 +1,4 @@
-// G: minimum cell width and height, maximum width and height, columns, start row.
+// G (RULES 6.9). Fields count from 0 here.
 use crate::GridOptions;
 use crate::layouts::pair_fits;
 use crate::layouts::pair_in;
@@ -14,7 +14,7 @@ use text::Field;
 ghost use mathlib.Core.Path.{_≡_};
 ghost use Rattle.records.specs.Records.{isColumns, maximaFit, maximaIn, optionsIn, gridFits};
 
-// 1 to 32, or blank.
+// Field 4: 1 to 32, or blank.
 fn is_columns(f: Field) -> bool
     ensures { λ r. ⌜ r ≡ isColumns f ⌝ }
 {

@@ -1,4 +1,4 @@
-// What comes before the first step: H, and G where its letter stands after it.
+// What comes before the first step: H, and G where its letter stands after it (RULES 6.11).
 use crate::GridOptions;
 use crate::Heading;
 use crate::grids::grid_fits;
@@ -22,6 +22,7 @@ pub fn has_grid(text: &[u8]) -> bool
     byte(text, next_record(text, 0)) == b'G'
 }
 
+// Without a G.
 fn no_options() -> GridOptions
     ensures { λ g. ⌜ g ≡ noOptions ⌝ }
 {
@@ -88,7 +89,7 @@ fn options_fit(text: &[u8]) -> bool
     true
 }
 
-// The first of its records that is not as it should be, 0 for none.
+// The first malformed record of the heading, 0 for none (RULES 8.6).
 pub fn heading_fault(text: &[u8]) -> usize
     ensures { λ r. ⌜ r ≡ headingFault (now (text .entry)) ⌝ }
 {

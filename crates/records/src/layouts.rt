@@ -1,4 +1,4 @@
-// H: six layout fields, max_rect's four edges, spacing across and down.
+// H (RULES 6.8). Fields count from 0 here.
 use crate::parts::byte;
 use crate::parts::count;
 use crate::parts::count_value;
@@ -28,6 +28,7 @@ fn direction_of(n: usize) -> Direction
     }
 }
 
+// 0 Min, 1 Center, 2 Max.
 fn align_of(n: usize) -> Align
     ensures { λ r. ⌜ r ≡ alignOf n ⌝ }
 {
@@ -38,6 +39,7 @@ fn align_of(n: usize) -> Align
     }
 }
 
+// Fields 0 to 5.
 fn layout_fits(text: &[u8]) -> bool
     ensures { λ r. ⌜ r ≡ layoutFits (now (text .entry)) ⌝ }
 {

@@ -1,4 +1,4 @@
-// A sheet's records: the text of a record read into what it says, and the checks over a whole sheet.
+// A sheet's records (RULES 6.5 to 6.11): what the text of each says, and the checks over a whole sheet (RULES 8.6 to 8.8).
 use emath::Rect;
 use emath::Vec2;
 use layout::Layout;
@@ -11,7 +11,7 @@ pub mod records;
 pub mod sheets;
 pub mod size_cache;
 
-// Magnitude at most 2,097,152 ticks.
+// The greatest magnitude of a length, in ticks.
 pub const LIMIT: u32 = 2097152;
 
 pub const MAX_RECORDS: usize = 512;
@@ -19,7 +19,7 @@ pub const MAX_RECORDS: usize = 512;
 // The cache of W sizes: two places for each record, from record 1 on; place 0 and place 513 stay free.
 pub const CACHE_LEN: usize = 1026;
 
-// G.
+// What G says.
 pub struct GridOptions {
     pub min_cell_size: Vec2,
     // Each may be +infinity.
@@ -70,6 +70,6 @@ pub enum Length {
 pub enum Checked {
     // How many records, and how many of them are W.
     Accepted(usize, usize),
-    // The number of document 01's table, and the record, from 1.
+    // The refusal's number (RULES 8.1), and the record, from 1.
     Refused(u8, usize),
 }

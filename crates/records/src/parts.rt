@@ -1,4 +1,4 @@
-// What a record at the front of a text is made of: bytes, lengths and counts, its line end.
+// The parts of a record at the front of a text: bytes, lengths and counts, its end (RULES 6.5 to 6.7, 6.9).
 use crate::LIMIT;
 use crate::Length;
 use emath::TICKS_PER_POINT;
@@ -21,6 +21,7 @@ pub fn byte(text: &[u8], at: usize) -> u8
     0
 }
 
+// From ticks.
 fn points(z: i32) -> f32
     requires { ⌜ natAbs z ≤ 2097152 ⌝ }
     ensures { λ r. ⌜ r ≡ pointsOf z ⌝ }
@@ -58,7 +59,7 @@ pub fn is_length(l: Length) -> bool
     }
 }
 
-// A blank maximum is infinite.
+// A maximum may be blank; it is then +infinity.
 pub fn is_maximum(l: Length) -> bool
     ensures { λ r. ⌜ r ≡ isMaximum l ⌝ }
 {

@@ -1,4 +1,4 @@
-// One record: its letter chooses what it is.
+// One record, by its letter (RULES 6.10), and where the next one begins (RULES 6.5).
 use crate::Record;
 use crate::Step;
 use crate::parts::byte;
@@ -10,7 +10,7 @@ ghost use mathlib.Core.Path.{_≡_};
 ghost use Prim.Native.Nat.{_≤_};
 ghost use Rattle.records.specs.Records.{stepRecord, widgetRecord, singleRecord, recordOf, recordAt, fieldCount, nextAt};
 
-// A step's record of n fields, which fit or don't.
+// A record of n fields, which fit or don't: this step where they do and an LF stands after them.
 fn step_record(text: &[u8], n: usize, fits: bool, step: Step) -> Record
     requires { ⌜ n ≤ 12 ⌝ }
     ensures { λ r. ⌜ r ≡ stepRecord (now (text .entry)) n fits step ⌝ }
@@ -35,7 +35,7 @@ fn widget(text: &[u8]) -> Record
     )
 }
 
-// A letter of one field.
+// A letter with one length.
 fn single(text: &[u8], letter: u8) -> Record
     ensures { λ r. ⌜ r ≡ singleRecord (now (text .entry)) letter ⌝ }
 {

@@ -1,4 +1,4 @@
-// A whole sheet: numbers 1 to 3 of document 01's table.
+// The check of a whole sheet: refusals 1 to 3 (RULES 8.6 to 8.8).
 use crate::CACHE_LEN;
 use crate::Checked;
 use crate::MAX_RECORDS;
@@ -31,6 +31,7 @@ fn is_step(r: Record) -> bool
     }
 }
 
+// 1 for a W.
 fn widget_step(st: Step) -> usize
     ensures { λ n. ⌜ (n ≡ widgetStep st) × (n ≤ 1) ⌝ }
 {
@@ -66,7 +67,7 @@ fn ended(k: usize, w: usize, room: usize) -> Checked
     Checked::Accepted(k, w)
 }
 
-// What of 1 to 3 applies to the sheet, with a slice of so many places; or how many records and W it has. Each W that is read goes to the cache.
+// Which of 1 to 3 applies, with a slice of `room` places; or how many records and W there are. The size of each W read goes to the cache.
 pub fn check_caching(text: &[u8], room: usize, sizes: &mut [f32]) -> Checked
     requires { ⌜ length (now sizes) ≡ 1026 ⌝ }
     ensures { λ r. ⌜ (r ≡ checked (now (text .entry)) room) × (now (sizes .exit) ≡ cachedBy (now (text .entry)) (now (sizes .entry))) ⌝ }

@@ -1,4 +1,4 @@
-// A cache of W sizes by the number of the record: filled when a sheet is checked, so that each W is read once.
+// A cache of W sizes by the record's number: filled when a sheet is checked, so that the fields of a W are read once.
 use crate::Record;
 use crate::Step;
 use crate::parts::byte;
@@ -9,7 +9,7 @@ ghost use lib.ListN.{length, drop};
 ghost use Rattle.records.specs.Records.{recordAt};
 ghost use Rattle.records.specs.Implementation.SizeCache.{storedStep, stored, IsCached};
 
-// The heights come after all the widths. Side by side, a record's two would be read by one load, which would wait for store forwarding of two narrower stores.
+// Heights stand after all widths: side by side, one load would read both and wait, since store forwarding does not join two stores.
 const HEIGHTS: usize = 513;
 
 fn store_step(sizes: &mut [f32], n: usize, st: Step)
@@ -31,7 +31,7 @@ fn store_step(sizes: &mut [f32], n: usize, st: Step)
     }
 }
 
-// The size that record n gives, where it is a W.
+// Stores the size of record n, where it is a W.
 pub fn store(sizes: &mut [f32], n: usize, r: Record)
     requires { ⌜ (n ≤ 512) × (length (now sizes) ≡ 1026) ⌝ }
     ensures { λ _. ⌜ now (sizes .exit) ≡ stored (now (sizes .entry)) n r ⌝ }
@@ -42,7 +42,7 @@ pub fn store(sizes: &mut [f32], n: usize, r: Record)
     }
 }
 
-// The record at a place, which is record n: a W from the cache, any other read again.
+// The record at `at`, which is record n: a W from the cache, any other read from the text.
 pub fn cached_record(text: &[u8], at: usize, sizes: &[f32], n: usize) -> Record
     requires { ⌜ (n ≤ 512) × (length (now sizes) ≡ 1026) ⌝ }
     requires { ⌜ IsCached (drop at (now text)) (now sizes) n ⌝ }

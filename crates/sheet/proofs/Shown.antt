@@ -1,4 +1,4 @@
--- What an accepted call has shown: the pass of its text, a cell for each W among its rectangles. Assumes nothing.
+-- What an accepted call shows: its answer is that of the text's pass, and the slice holds a cell for each W. Assumes nothing.
 use Prim.Native.Nat.{ℕ, _+_, _*_, _≤_}
 use mathlib.Core.Path.{_≡_, refl, ap, sym, _∙_}
 use mathlib.Core.Bool.{Bool, true, false, cond}
@@ -60,7 +60,7 @@ pass-all k s known m sizing h =
     let r = ran-all k s known m sizing (headed k (s .heading) .placer) (g .rest) in
     omega (arith, r, ap (λ (cs : List Cell). length cs) (o .cells), ap (λ (cs : List Cell). length cs) (g .cells))
 
--- ---- what an accepted call has shown
+-- ---- what an accepted call shows
 pub record Shown (text : List ℕ) (known : Bool) (m : Memory) (sizing : Bool) (p : Passed) (exit : List ℤ) : Type 0 where
   pub number : pass tick (sheetIn text) known m sizing .number ≡ 0
   pub plate : p .plate ≡ pass tick (sheetIn text) known m sizing .plate

@@ -1,4 +1,4 @@
--- What a pass leaves in a lent slice: eight places for each W before the fault, all of them there, and every other place as it was.
+-- What a pass leaves in a lent slice: the eight places of each W before a fault, which are all there, and every other place as it was.
 -- Assumes nothing.
 use Prim.Native.Nat.{ℕ, _+_, _*_, _≤_, _<_}
 use mathlib.Core.Path.{_≡_, refl, ap, _∙_}

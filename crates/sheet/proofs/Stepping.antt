@@ -1,5 +1,5 @@
--- A record on a placer without fault: what the code adds up for a W is the rule's number, and an accepted record leaves a placer without
--- fault. Assumes nothing.
+-- A record on a placer without a fault: the number that the code works out for a W is the rule's, and an accepted record leaves a placer
+-- without a fault. Assumes nothing.
 use mathlib.Core.Path.{_≡_, refl, sym, ap, _∙_}
 use mathlib.Core.Bool.{Bool, true, false}
 use Prim.Native.Nat.{ℕ}
@@ -34,7 +34,7 @@ use Rattle.sheet.specs.Implementation.Calls.{givenNumber, answeredNumber
 
 -- ---- a W
 module _ (p : Placer) (sp s : Vec2) (none : placerFault p ≡ 0) (cols : length (p .grid .«curr_state» .«col_widths») ≡ 32) (rows : length (p .grid .«curr_state» .«row_heights») ≡ 128) where
-  -- where there is no room the rest is not asked
+  -- where none of 4 to 8 applies there is room for the W
   given-room : givenNumber p sp s ≡ 0 → advanceFault p ≡ 0
   unfolding givenNumber least
   given-room h = lesser-none (pairFault (sp .x) (sp .y)) (advanceFault p) (lesser-none (sizeFault s) _ h .1) .1

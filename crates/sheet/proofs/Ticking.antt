@@ -46,7 +46,7 @@ eight-put out at a b c d e f g h =
     let p7 : at + 7 ≡ suc (suc (suc (suc (suc (suc (suc at)))))) = omega arith in
     rw (p1, p2, p3, p4, p5, p6, p7)
 
--- what the machine reads back is what was kept
+-- a number that comes back from 32 bits as it went in
 abbrev pub Same : ℤ → Type 0
 Same z = toZ w32 (ofZ w32 z) ≡ z
 

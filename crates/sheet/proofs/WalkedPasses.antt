@@ -1,4 +1,4 @@
--- The pass as the code goes through a text is the rule's: after the heading the run over its steps, and what it comes to. Assumes nothing.
+-- A pass as the code makes it is the rule's: the heading, the run over the steps, and what it comes to. Assumes nothing.
 use Prim.Native.Nat.{ℕ, _+_}
 use mathlib.Core.Path.{_≡_, ap, sym, _∙_, subst}
 use mathlib.Core.Bool.{Bool, true, false}

@@ -1,4 +1,5 @@
--- A run over a text is the rule's run over the steps that the text holds, and the slice then holds the rectangles of its W. Assumes nothing.
+-- The code's run over a text is the rule's over the steps that the text holds, and the slice then holds the rectangles of its W.
+-- Assumes nothing.
 use Prim.Native.Nat.{ℕ, zero, suc, _+_, _*_}
 use mathlib.Core.Path.{_≡_, refl, ap, sym, _∙_, subst}
 use mathlib.Core.Bool.{Bool, true, false, cond}
@@ -32,7 +33,7 @@ sets-append (a ∷ xs) ys l i =
     let e : suc i + length xs ≡ i + suc (length xs) = omega arith in
     sets-append xs ys (set l i a) (suc i) ∙ ap (λ (k : ℕ). sets (sets (set l i a) (suc i) xs) k ys) e
 
--- ---- a step's answer is the rule's, and what it puts is its cells
+-- ---- a step's answer is the rule's, and what it writes are its cells
 record AsRule (m : CallResult) (a : Stepped) (out : List ℤ) (w : ℕ) : Type 0 where
   pub number : m .number ≡ a .number
   pub placer : m .placer ≡ a .placer

@@ -1,5 +1,5 @@
--- A run over a text, a record at a time: one turn of it, what each return answers, and that the slice has room for each W, whose rectangles
--- are whole ticks. Assumes nothing.
+-- A run over a text, a record at a time: one turn of the loop, what each return answers, and that the slice has room for each W, whose
+-- rectangles are in whole ticks. Assumes nothing.
 use mathlib.Core.Bool.{cond}
 use Prim.Native.Nat.{ℕ, zero, suc, _+_, _-_, _*_, _≤_, _<_}
 use mathlib.Core.Path.{_≡_, refl, ap, sym, _∙_, subst}
@@ -30,7 +30,7 @@ use Rattle.sheet.proofs.Runs.{widget-placed}
 use Rattle.sheet.proofs.Stepping.{moved-none}
 use Rattle.sheet.proofs.PlacedCells.{cell-whole}
 
--- ---- a record that is a W, and no other, has a place
+-- ---- a record that is a W has eight places, and no other has any
 step-placed : (p : Placer) (sp : Vec2) (st : Step) → stepResult p sp st .placed ≡ widgetStep st
 unfolding stepResult placement widgetStep
 step-placed p sp (Widget w h) = refl

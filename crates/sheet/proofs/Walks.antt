@@ -1,4 +1,4 @@
--- A run over a text in the order in which the loop goes: from the front of the text on, record by record.
+-- A run over a text in the loop's order: from the front of the text on, record by record.
 use Prim.Native.Nat.{ℕ, zero, suc, _+_}
 use mathlib.Core.Bool.{Bool, true, false, cond}
 use mathlib.Core.List.{List, [], _∷_}

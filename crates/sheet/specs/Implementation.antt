@@ -1,3 +1,3 @@
--- How the code goes through a text. Not part of the specification.
+-- For the contracts of the call's parts: how the code goes through a text. Not part of the specification.
 pub mod Calls
 pub mod Walks

@@ -1,4 +1,4 @@
--- Document 01, "The sheet" and "Turned back": one pass over a text, with a lent slice for the rectangles, in ticks.
+-- RULES 6.12, 6.18, 8.3, 8.19: one pass over a text, with a lent slice for the rectangles, in ticks; and what the call promises.
 use Prim.Native.Nat.{ℕ, _+_}
 use mathlib.Core.Path.{_≡_}
 use mathlib.Core.Bool.{Bool, cond}
@@ -20,7 +20,7 @@ use Rattle.sheet.specs.Pass.{Cell, Outcome, refusedAt, pass}
 use Rattle.sheet.specs.Texts.{sheetIn}
 use Rattle.sheet.specs.Ticks.{Ticks, inTicks}
 
--- "W number k, from 0, fills places 8k to 8k + 7 of a lent i32 slice: frame, then widget, in ticks."
+-- ---- RULES 6.18: the eight places of each W, its frame's edges and its widget's
 abbrev pub edges : Ticks → List ℤ
 edges t = t .left ∷ t .top ∷ t .right ∷ t .bottom ∷ []
 
@@ -31,8 +31,8 @@ unfoldable pub written : List Cell → List ℤ
 written [] = []
 written (c ∷ rest) = eight c ++ written rest
 
--- "One library call is one pass, taking and giving a memory": it answers accepted, or the number and the record; its rectangles stand in the
--- slice
+-- ---- RULES 6.12: what the call answers
+-- accepted, or the number and the record
 unfoldable pub laidOf : ℕ → ℕ → Laid
 laidOf number at = cond (eqb number 0) laid-of.Accepted (laid-of.Refused number at)
 
@@ -45,16 +45,17 @@ unfoldable pub laidRecord : Laid → ℕ
 laidRecord laid-of.Accepted = 0
 laidRecord (laid-of.Refused n at) = at
 
+-- the whole answer; the rectangles stand in the slice
 abbrev pub passedOf : Outcome → Passed
 passedOf o = record { laid = laidOf (o .number) (o .at); plate = o .plate; memory = o .memory; save = o .save }
 
+-- ---- RULES 6.12: what the call does
 -- what a pass gives, and what the slice then holds
 pub record LaidOut : Type 0 where
   pub outcome : Outcome
   pub slice : List ℤ
 
--- "After 1 to 3 the lent slice is untouched; later, records before the fault have theirs and all other places keep what they held before that
--- pass."
+-- RULES 8.3, 8.19: after 1 to 3, which come first, the slice is as it was; else each W laid out has its places, and no other changes
 unfoldable pub afterCheck : Checked → List ℕ → Bool → Memory → Bool → List ℤ → LaidOut
 afterCheck (Refused n at) text known m sizing out = record { outcome = refusedAt n at [] m; slice = out }
 afterCheck (Accepted records widgets) text known m sizing out = record {
@@ -62,10 +63,12 @@ afterCheck (Accepted records widgets) text known m sizing out = record {
   slice = sets out 0 (written (pass tick (sheetIn text) known m sizing .cells));
 }
 
+-- the text is checked, then the pass runs
 unfoldable pub laid : List ℕ → Bool → Memory → Bool → List ℤ → LaidOut
 laid text known m sizing out = afterCheck (checked text (length out)) text known m sizing out
 
--- what a call that gives this promises: its answer, the number and the record in it, and the slice at its exit
+-- ---- RULES 6.12, 10.1, 10.12: what the call promises
+-- of a call that does this: its answer, the number and the record in it, and the slice at its exit
 pub record Returns (l : LaidOut) (p : Passed) (exit : List ℤ) : Type 0 where
   pub answer : p ≡ passedOf (l .outcome)
   pub number : laidNumber (p .laid) ≡ l .outcome .number
@@ -76,7 +79,7 @@ pub record Returns (l : LaidOut) (p : Passed) (exit : List ℤ) : Type 0 where
 abbrev pub Called : List ℕ → Bool → Memory → Bool → List ℤ → Passed → List ℤ → Type 0
 Called text known m sizing out p exit = Returns (laid text known m sizing out) p exit
 
--- how many W there are
+-- ---- RULES 10.3: how many controls there are
 unfoldable pub controls : List Step → ℕ
 controls [] = 0
 controls (st ∷ rest) = widgetStep st + controls rest

@@ -1,4 +1,4 @@
--- The sheet that a text holds: its heading and its steps as crate records reads them. Of a text that 1 to 3 turn back it means nothing.
+-- RULES 6.12: the sheet that a text holds, its heading and its steps as crate records reads them. Where 1 to 3 apply it means nothing.
 use mathlib.Core.List.{List, [], _∷_}
 use Prim.Native.Nat.{ℕ}
 use Rattle.records.specs.Headings.{headingIn}
@@ -8,7 +8,7 @@ use Rattle.records.specs.declared.Record.{Record}
 use Rattle.records.specs.declared.Record.the-variants as record-of
 use Rattle.sheet.specs.Pass.{Sheet}
 
--- the steps among some records
+-- ---- RULES 6.12: the steps among some records, and the sheet
 unfoldable pub stepsOf : List Record → List Step
 stepsOf [] = []
 stepsOf (record-of.Step st ∷ rest) = st ∷ stepsOf rest

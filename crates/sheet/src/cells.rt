@@ -1,4 +1,4 @@
-// A W's rectangles in a lent slice: frame, then widget, in ticks.
+// A W's rectangles in a lent slice, in ticks (RULES 6.18).
 use emath::Rect;
 use emath::TICKS_PER_POINT;
 ghost use mathlib.Core.Path.{_≡_};
@@ -18,6 +18,7 @@ pub fn tick(x: f32) -> i32
     (x * TICKS_PER_POINT) as i32
 }
 
+// The edges of the frame and then of the widget, from `at` on.
 fn write_cell(out: &mut [i32], at: usize, frame: Rect, widget: Rect)
     requires { ⌜ at + 8 ≤ length (now out) ⌝ }
     requires { ⌜ WholeRect tick frame × WholeRect tick widget ⌝ }
@@ -33,7 +34,7 @@ fn write_cell(out: &mut [i32], at: usize, frame: Rect, widget: Rect)
     out[at + 7] = tick(widget.bottom);
 }
 
-// W number w, where there is one; and how many there are then.
+// Writes W number w, where `placed` is 1, and answers how many W there are then.
 pub fn put(out: &mut [i32], w: usize, placed: usize, frame: Rect, widget: Rect) -> usize
     requires { ⌜ (8 * (w + placed) ≤ length (now out)) × (placed ≤ 1) ⌝ }
     requires { ⌜ (0 < placed → WholeRect tick frame × WholeRect tick widget) ⌝ }

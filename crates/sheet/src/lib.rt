@@ -1,4 +1,4 @@
-// A sheet's pass: the rules in specs/, the call that runs them, and what is proved of them.
+// One pass over a sheet's text (RULES 6.12 to 6.20): the call, `passing::pass`, and what it is made of.
 use emath::Rect;
 use grid::Memory;
 use placer::PassState;
@@ -9,8 +9,8 @@ pub mod passing;
 mod steps;
 mod walk;
 
-// What a record gives: its number (0: none), what the pass carries on, the given one where it is refused; how many W it is, 1 or 0, and a
-// W's rectangles.
+// What a record gives: its number (0: none); the state after it, or the given one where it is refused; how many W it is, 1 or 0, and a W's
+// rectangles.
 pub struct StepResult {
     pub number: u8,
     pub state: PassState,
@@ -19,20 +19,20 @@ pub struct StepResult {
     pub widget: Rect,
 }
 
-// How far a run came: a refusal's number (0: none) and record, and what it carried.
+// How far a run came: a refusal's number and record, 0 and 0 for none, and the state there.
 pub struct RunResult {
     pub number: u8,
     pub at: usize,
     pub state: PassState,
 }
 
-// Whether a pass is accepted, or the number of document 01's table and the record, from 1.
+// Whether a pass is accepted, or the refusal's number (RULES 8.1) and the record, from 1.
 pub enum Laid {
     Accepted,
     Refused(u8, usize),
 }
 
-// What a pass gives: the plate is all zero where it is refused, the memory then the one given.
+// What a pass gives. Where it is refused the plate is all zero, and the memory is the one given (RULES 8.19).
 pub struct Passed {
     pub laid: Laid,
     pub plate: Rect,

@@ -41,7 +41,7 @@ pub(crate) fn refused(number: u8, at: usize, memory: Memory) -> Passed
     }
 }
 
-// The run's end: the plate is min_rect, and a grid gives its memory, which is the one that the arrays hold.
+// At the run's end: the plate is min_rect, and the memory is the grid's, which the arrays hold, or without a grid the given one.
 pub(crate) fn finish(
     grid: bool,
     memory: Memory,
@@ -79,7 +79,7 @@ pub(crate) fn finish(
     }
 }
 
-// G: GridLayout's `new` with the given memory, then `set_grid`.
+// G (RULES 6.14): GridLayout's `new`, then `set_grid`.
 pub(crate) fn grid_set(
     heading: Heading,
     known: bool,

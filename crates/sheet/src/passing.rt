@@ -30,7 +30,7 @@ ghost use Rattle.sheet.specs.Texts.{stepsOf};
 ghost use Rattle.sheet.specs.Slices.{written, passedOf, Called};
 ghost use Rattle.sheet.specs.Implementation.Walks.{OnlySteps, recordsAfter, sheetAfter, Room, Known, Answers};
 
-// The records from a place on, from a placer without a fault on.
+// The records from place `from` on, the first being record `first`, on a placer without a fault.
 fn walk_from(
     placer: Placer,
     text: &[u8],
@@ -73,7 +73,7 @@ fn walk_from(
     finish(grid, memory, b, r, prev, widths, heights)
 }
 
-// The heading gave a placer: the steps after it.
+// The steps after the heading, on the placer that it gave.
 fn go_on(
     placer: Placer,
     heading: Heading,
@@ -100,7 +100,7 @@ fn go_on(
     )
 }
 
-// G, the last of the heading.
+// G, the heading's last record, and the steps.
 fn with_grid(
     placer: Placer,
     heading: Heading,
@@ -123,7 +123,7 @@ fn with_grid(
     go_on(p, heading, text, sizes, memory, out)
 }
 
-// H: Placer's `new`.
+// H (RULES 6.13): Placer's `new`; and all that follows.
 fn from_heading(
     heading: Heading,
     text: &[u8],
@@ -193,8 +193,8 @@ pub fn pass_caching(
     }
 }
 
-// One pass over the text, with the memory (where it is known) and sizing or not. After 1 to 3 the slice is untouched; later the W before the
-// fault have their eight places, and every other place holds what it held.
+// RULES 6.12: one pass over the text, with the memory where it is known, sizing or not. W that are laid out have their places in the slice,
+// which is otherwise as it was.
 pub fn pass(text: &[u8], known: bool, memory: Memory, sizing: bool, out: &mut [i32]) -> Passed
     ensures { λ p. ⌜ Called (now (text .entry)) known memory sizing (now (out .entry)) p (now (out .exit)) ⌝ }
 {

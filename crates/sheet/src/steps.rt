@@ -1,4 +1,4 @@
-// One record after H and G: the calls that it names. The placer has no fault, and its grid's arrays are lent beside it.
+// One step (RULES 6.15, 6.16) on a placer without a fault, whose grid's arrays are lent beside it.
 use crate::StepResult;
 use emath::Rect;
 use emath::Vec2;
@@ -25,7 +25,7 @@ ghost use Rattle.placer.specs.declared.PlacerSettings.{PlacerSettings as Settin
 ghost use Rattle.placer.specs.Implementation.Lent.{placerOf, answerOf};
 ghost use Rattle.sheet.specs.Implementation.Calls.{resultOf, givenNumber, answeredNumber, placement, calledBy, stepResult, recordResult, Ready};
 
-// What a W's calls are given: 4 to 8.
+// 4 to 8, of what a W's calls are given (RULES 8.18).
 fn given_number(placer: PlacerSettings, state: PassState, spacing: Vec2, size: Vec2) -> u8
     ensures { λ n. ⌜ ((pw ph ws hs : List Float) → n ≡ givenNumber (placerOf placer state pw ph ws hs) spacing size) ⌝ }
 {
@@ -37,7 +37,7 @@ fn given_number(placer: PlacerSettings, state: PassState, spacing: Vec2, size: V
     )
 }
 
-// What they answer: 9 and 10.
+// 9 and 10, of what they answer; `past` is the number of the placer after them.
 fn answered_number(frame: Rect, widget: Rect, past: u8) -> u8
     ensures { λ n. ⌜ n ≡ answeredNumber frame widget past ⌝ }
 {
@@ -85,7 +85,7 @@ fn place(
     }
 }
 
-// A record that is no W.
+// A step that is no W.
 fn step_result(number: u8, state: PassState) -> StepResult
     ensures { λ m. ⌜ ((p : Settings) (pw ph ws hs : List Float) → resultOf p m pw ph ws hs ≡ calledBy (record { number = number; placer = placerOf p state pw ph ws hs })) ⌝ }
 {
@@ -99,7 +99,7 @@ fn step_result(number: u8, state: PassState) -> StepResult
     }
 }
 
-// A record that is one call, of a pass at `state`.
+// A step that is one call, made at `state`.
 fn called(state: PassState, a: StateAnswer) -> StepResult
     ensures { λ m. ⌜ ((p : Settings) (pw ph ws hs : List Float) → resultOf p m pw ph ws hs ≡ calledBy (answerOf p state a pw ph ws hs)) ⌝ }
 {
@@ -109,7 +109,7 @@ fn called(state: PassState, a: StateAnswer) -> StepResult
     }
 }
 
-// S amount `advance_cursor`; E `end_row`; R height `set_row_height`; L, K, N and T limit the region.
+// What each step runs.
 fn run_step(
     placer: PlacerSettings,
     state: PassState,
@@ -144,7 +144,7 @@ fn run_step(
     }
 }
 
-// What is no step is 1; a sheet that was checked has none.
+// A record that is no step is malformed; after the check there is none.
 pub fn run_record(
     placer: PlacerSettings,
     state: PassState,

@@ -1,4 +1,4 @@
-// The records of a text one after the other.
+// The records of a text one after the other (RULES 6.17).
 use crate::RunResult;
 use crate::cells::put;
 use crate::steps::run_record;

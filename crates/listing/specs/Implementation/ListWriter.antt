@@ -1,4 +1,4 @@
--- The list as the code writes it, line after line: where the next line begins, and what the slice then holds.
+-- For the contracts of src/lines.rt and src/printing.rt: the list as the code writes it, line after line.
 use Prim.Native.Nat.{ℕ, zero, suc, _+_, _*_, _≤_}
 use mathlib.Core.Bool.{Bool, true, false, cond, _&&_}
 use mathlib.Core.List.{List, [], _∷_}
@@ -24,10 +24,12 @@ use Rattle.sheet.specs.declared.Passed.{Passed}
 use Rattle.sheet.specs.Ticks.{ticks, inTicks}
 use Rattle.sheet.specs.Slices.{edges}
 
+-- where the next line begins, and what the array holds so far
 pub record Put : Type 0 where
   pub at : ℕ
   pub out : List ℕ
 
+-- how long a line of these numbers is
 abbrev pub bytes : List ℤ → ℕ
 bytes zs = 2 + 8 * length zs
 
@@ -38,7 +40,7 @@ putLine letter zs p =
     (record { at = p .at + bytes zs; out = sets (p .out) (p .at) (line letter zs) })
     p
 
--- places 8k to 8k + 7
+-- the eight places of W number k
 abbrev pub placesOf : List ℤ → ℕ → List ℤ
 placesOf cells k =
     getD cells (8 * k) (pos 0) ∷ getD cells (8 * k + 1) (pos 0) ∷ getD cells (8 * k + 2) (pos 0) ∷ getD cells (8 * k + 3) (pos 0)
@@ -48,17 +50,17 @@ placesOf cells k =
 unfoldable pub mark : List ℕ → ℕ
 mark s = cond (eqb (letter s) letters.W) 1 0
 
--- W number k, of record n, where there is one
+-- the line of W number k, which is record n, where `here` is 1
 unfoldable pub putWidget : ℕ → ℕ → ℕ → List ℤ → Put → Put
 putWidget here n k cells p = cond (eqb here 0) p (putLine letters.W (pos n ∷ placesOf cells k) p)
 
--- record n is at the front of the text, k W came before it, and there may be so many records more
+-- the lines of W: record n is at the front of the text, k W came before it, and at most so many records are left
 unfoldable pub putWidgets : ℕ → ℕ → ℕ → List ℕ → List ℤ → Put → Put
 putWidgets zero n k s cells p = p
 putWidgets (suc left) n k [] cells p = p
 putWidgets (suc left) n k (b ∷ s) cells p = putWidgets left (n + 1) (k + mark (b ∷ s)) (rest (b ∷ s)) cells (putWidget (mark (b ∷ s)) n k cells p)
 
--- entries from index i on
+-- the lines of a memory's lengths, from index i on
 unfoldable pub putEntries : ℕ → ℕ → List Float → Put → Put
 putEntries letter i [] p = p
 putEntries letter i (x ∷ xs) p = putEntries letter (i + 1) xs (putLine letter (pos i ∷ ticks tick x ∷ []) p)
@@ -85,7 +87,7 @@ unfoldable pub isAccepted : Laid → Bool
 isAccepted laid-of.Accepted = true
 isAccepted (laid-of.Refused number at) = false
 
--- it can be printed: its plate and memory where it is accepted, else the record's number
+-- it can be printed: its plate and memory are in whole ticks, or its record is at most 600
 unfoldable pub printable : Laid → Passed → Type 0
 printable laid-of.Accepted p = WholeRect tick (p .plate) × WholeMemory (p .memory)
 printable (laid-of.Refused number at) p = at ≤ 600
@@ -93,6 +95,7 @@ printable (laid-of.Refused number at) p = at ≤ 600
 abbrev pub Printable : Passed → Type 0
 Printable p = printable (p .laid) p
 
+-- its lines
 unfoldable pub putPassed : Laid → List ℕ → List ℤ → Passed → Put → Put
 putPassed laid-of.Accepted text cells p at = putAccepted text cells (p .plate) (p .memory) at
 putPassed (laid-of.Refused number n) text cells p at = putLine letters.X (pos number ∷ pos n ∷ []) at

@@ -1,4 +1,4 @@
--- The cache of W sizes by the number of the record, which the check fills, so that each W is read once.
+-- For speed: the check caches the size of each W by its record's number, so that the fields of a W are read once.
 use Prim.Native.Nat.{ℕ, zero, suc, _+_}
 use mathlib.Core.Path.{_≡_}
 use mathlib.Core.List.{List, [], _∷_}
@@ -37,21 +37,21 @@ cachedFrom n [] ss = ss
 cachedFrom n (Steps st ∷ rs) ss = cachedFrom (n + 1) rs (storedStep ss n st)
 cachedFrom n (Wrong ∷ rs) ss = ss
 
--- the array as the check of a text leaves it, accepted or not: with a malformed heading nothing is stored
+-- the array as the check of a text leaves it, accepted or not; with a malformed heading nothing is stored
 unfoldable pub cachedBy : List ℕ → List Float → List Float
 cachedBy s ss = cond (eqb (headingFault s) 0) (cachedFrom (headingIn s .records + 1) (records s) ss) ss
 
--- record n, at the front of the text, says what its places hold, where it is a W
+-- where record n, at the front of the text, is a W, its places hold its size
 abbrev pub IsCached : List ℕ → List Float → ℕ → Type 0
 IsCached s ss n = letter s ≡ letters.W → recordOf s ≡ Steps (Widget (getD ss n nan) (getD ss (513 + n) nan))
 
--- so does each of at most `left` records from there on
+-- the same of each of at most `left` records from there on
 unfoldable pub AreCached : ℕ → List ℕ → List Float → ℕ → Type 0
 AreCached zero s ss n = Unit {0}
 AreCached (suc left) [] ss n = Unit {0}
 AreCached (suc left) (b ∷ s) ss n = IsCached (b ∷ s) ss n × AreCached left (rest (b ∷ s)) ss (n + 1)
 
--- so does each record of a text after its heading
+-- the same of each record of a text after its heading
 abbrev pub CachedIn : List ℕ → List Float → Type 0
 CachedIn s ss = AreCached (stepsLeft s) (drop (headingIn s .next) s) ss (headingIn s .records + 1)
 

@@ -1,4 +1,4 @@
--- What the code's calls answer, as the rule of a pass has it, in ticks.
+-- For the contracts of src/steps.rt: what the code answers for one record, as Pass.antt has it, the step being a tick.
 use Prim.Native.Nat.{ℕ}
 use mathlib.Core.Path.{_≡_}
 use mathlib.Core.List.{List, [], _∷_}
@@ -24,7 +24,7 @@ use Rattle.records.specs.declared.Record.the-variants as record-of
 use Rattle.sheet.specs.declared.StepResult.{StepResult}
 use Rattle.sheet.specs.Pass.{cellOf, widgetStep}
 
--- what a record gives: its number (0: none), the placer after it; how many W it is, and a W's rectangles
+-- what a record gives: its number (0: none), the placer after it; how many W it is, 1 or 0, and a W's rectangles
 pub record CallResult : Type 0 where
   pub number : ℕ
   pub placer : Placer
@@ -32,17 +32,17 @@ pub record CallResult : Type 0 where
   pub frame : Rect
   pub widget : Rect
 
--- with the arrays that are lent
+-- the code's answer, its placer with the arrays that are lent
 abbrev pub resultOf : PlacerSettings → StepResult → List Float → List Float → List Float → List Float → CallResult
 resultOf p m pw ph ws hs = record { number = m .number; placer = placerOf p (m .state) pw ph ws hs; placed = m .placed; frame = m .frame; widget = m .widget }
 
--- a placer without fault, and arrays of their lengths
+-- a placer without a fault, and arrays that are as long as a memory's
 pub record Ready (p : PlacerSettings) (s : PassState) (pw ph ws hs : List Float) : Type 0 where
   pub none : placerFault (placerOf p s pw ph ws hs) ≡ 0
   pub cols : length ws ≡ 32
   pub rows : length hs ≡ 128
 
--- of a placer without fault: 4 to 8 of what a W's calls are given, 9 and 10 of what they answer, `past` the new placer's own
+-- where the placer has no fault: 4 to 8 of what a W's calls are given; 9 and 10 of what they answer, `past` being the new placer's number
 unfoldable pub givenNumber : Placer → Vec2 → Vec2 → ℕ
 givenNumber p sp s = least (sizeFault s ∷ pairFault (sp .x) (sp .y) ∷ advanceFault p ∷ [])
 
@@ -72,7 +72,7 @@ stepResult p sp (MinWidth w) = calledBy (checkedSetMinWidth tick p w)
 stepResult p sp (MinHeight h) = calledBy (checkedSetMinHeight tick p h)
 stepResult p sp RowEnd = calledBy (checkedEndRow p sp)
 
--- a sheet that was checked has nothing but steps here
+-- what is no step is malformed; after the check there is none
 unfoldable pub recordResult : Placer → Vec2 → Record → CallResult
 recordResult p sp (record-of.Step st) = stepResult p sp st
 recordResult p sp record-of.Wrong = calledBy (record { number = number.malformed; placer = p })

@@ -1,4 +1,5 @@
--- A run over the records of a text as the code keeps it: the arrays lent, the rectangles in the slice.
+-- For the contracts of src/walk.rt, cells.rt, outcomes.rt and passing.rt: a run over a text as the code has it, with the grid's arrays lent
+-- and the rectangles in the slice.
 use Prim.Native.Nat.{ℕ, _+_, _-_, _*_, _≤_}
 use mathlib.Core.Path.{_≡_}
 use mathlib.Core.Bool.{Bool, cond}
@@ -30,6 +31,7 @@ use Rattle.sheet.specs.Texts.{stepsOf}
 use Rattle.sheet.specs.Ticks.{inTicks}
 use Rattle.sheet.specs.Slices.{edges, written, passedOf}
 
+-- the eight places of W number w, written where `placed` is 1
 abbrev pub eightOf : Rect → Rect → List ℤ
 eightOf frame widget = edges (inTicks tick frame) ++ edges (inTicks tick widget)
 
@@ -42,25 +44,25 @@ pub record Run : Type 0 where
   pub at : ℕ
   pub placer : Placer
 
--- with the arrays that are lent
+-- the code's answer, its placer with the arrays that are lent
 abbrev pub runOf : PlacerSettings → RunResult → List Float → List Float → List Float → List Float → Run
 runOf p r pw ph ws hs = record { number = r .number; at = r .at; placer = placerOf p (r .state) pw ph ws hs }
 
--- the rule's run, with the rectangles cs
+-- as a run of Pass.antt, with the rectangles cs
 abbrev pub ranOf : List Cell → Run → Ran
 ranOf cs r = record { number = r .number; at = r .at; cells = cs; placer = r .placer }
 
--- a run over some steps, from record n on, and the slice then
+-- a run over some steps, from record n on, and the slice after it
 pub record Walked (sp : Vec2) (n : ℕ) (p : Placer) (steps : List Step) (out : List ℤ) (r : Run) (exit : List ℤ) : Type 0 where
   pub run : ranOf (runFrom tick sp n p steps .cells) r ≡ runFrom tick sp n p steps
   pub slice : exit ≡ sets out 0 (written (runFrom tick sp n p steps .cells))
 
--- an answer, and the slice, that are those of a run
+-- an answer and a slice that are those of a run
 pub record Answers (grid : Bool) (m : Memory) (r : Ran) (out : List ℤ) (p : Passed) (exit : List ℤ) : Type 0 where
   pub answer : p ≡ passedOf (outcomeOf grid m r)
   pub slice : exit ≡ sets out 0 (written (r .cells))
 
--- records that are steps, as a check leaves them
+-- records that are all steps
 pub data OnlySteps : List Record → Type 0 where
   none : OnlySteps []
   more : {st : Step} {rs : List Record} → OnlySteps rs → OnlySteps (record-of.Step st ∷ rs)
@@ -72,7 +74,7 @@ recordsAfter h text = recordsFrom (mostRecords - h .records) (drop (h .next) tex
 abbrev pub sheetAfter : Heading → List ℕ → Sheet
 sheetAfter h text = record { heading = h; steps = stepsOf (recordsAfter h text) }
 
--- a text was checked: its steps are steps, the slice has room for the W among them, and these are cached
+-- what an accepted check leaves: the records after the heading are steps, the slice has room for the W among them, and these are cached
 pub record Room (h : Heading) (text : List ℕ) (room : ℕ) (sizes : List Float) : Type 0 where
   pub few : h .records ≤ mostRecords
   pub begins : h .next ≤ length text
@@ -81,6 +83,7 @@ pub record Room (h : Heading) (text : List ℕ) (room : ℕ) (sizes : List Float
   pub places : length sizes ≡ 1026
   pub cached : AreCached (mostRecords - h .records) (drop (h .next) text) sizes (h .records + 1)
 
+-- a text whose check was accepted before
 pub record Known (text : List ℕ) (room : ℕ) (sizes : List Float) : Type 0 where
   pub all : ℕ
   pub widgets : ℕ

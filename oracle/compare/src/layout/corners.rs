@@ -81,7 +81,7 @@ impl Corners {
             }
         }
         if self.against.get() != 0 {
-            t.lacking("region_from_max_rect as document 01 has it for wrap and justify");
+            t.lacking("region_from_max_rect as RULES 2.26 has it for wrap and justify");
         }
     }
 

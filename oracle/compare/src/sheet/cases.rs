@@ -5,7 +5,7 @@ use super::listing::list;
 use super::reference::{COLUMNS, MOST_RECORDS};
 use crate::tally::{Tally, say};
 
-const NAME: &str = "document 01's lists";
+const NAME: &str = "the lists by hand";
 
 pub struct Case {
     pub name: &'static str,
@@ -222,7 +222,7 @@ pub fn compare(t: &mut Tally) {
     for case in &cases {
         let lists = [list(&case.text).bytes, case.list.clone()].map(Bytes);
         let [listed, settled] = &lists;
-        t.agree_as(NAME, case.name, ["Rust", "paper"], [listed, settled]);
+        t.agree_as(NAME, case.name, ["Rust", "hand"], [listed, settled]);
     }
     let (count, differ) = (cases.len(), t.differences - differences);
     say!(t, "{NAME}: {count} cases, {differ} differ");

@@ -1,4 +1,4 @@
--- `sheet::passing::finish` meets its contract. Assumes nothing.
+-- `sheet::outcomes::finish` meets its contract. Assumes nothing.
 use Rattle.sheet.specs.Pass.{outcomeOf, plateOf, remembered}
 use Rattle.sheet.specs.Slices.{laidOf}
 use borrow.Author.Tests.{eq-eqb, ne-eqb}

@@ -10,7 +10,7 @@ use lib.ListN.{length}
 use Rattle.drawing.specs.Pieces.{Put, emits, marked, next, filled, joined}
 use Rattle.drawing.specs.Pages.{InBounds, isLine, linesFrom, pageFor, pageWidth, pageHeight}
 use Rattle.drawing.specs.Drawings.{columnLines, rowLines, control, outlines, window, wholeWindow, windows, captions, label, labels, widgetRow, plateRow, columnRow, rowRow, one, each, seen, flat, covers}
-use Rattle.drawing.specs.Pictures.{style, head, points, title, gridWidgets, shapes, widthLine, heightLine, dimensions, scaleLine, scale, picture, key, accepted, reason, numberOf, refusal, drawnFrom, pieces, drawing, drawnIn}
+use Rattle.drawing.specs.Pictures.{style, head, points, title, gridWidgets, shapes, widthLine, heightLine, dimensions, scaleLine, scale, picture, key, accepted, reason, refusalNumber, refusal, drawnFrom, pieces, drawing, drawnIn}
 use Rattle.drawing.specs.declared.Page.{Page}
 use Rattle.drawing.specs.declared.Layer.{Layer}
 use Rattle.drawing.specs.declared.Layer.the-variants.{ColumnLines, RowLines, Outlines, Windows, Captions, Labels, WidgetRows, ColumnRows, RowRows}
@@ -206,7 +206,7 @@ unfolding refusal most taken marked next
 refusal-size s line =
     both _ _ {m = 833} {n = 199} (head-size (pageFor s 0) s 720 110)
     (both _ _ {m = 106} {n = 93} (fill _ _ _ _ tt)
-    (both _ _ {m = 78} {n = 15} (words-size s (numberOf s line)) (fill _ _ _ _ tt)))
+    (both _ _ {m = 78} {n = 15} (words-size s (refusalNumber s line)) (fill _ _ _ _ tt)))
 
 -- ---- the whole
 drawn-by : (s : List ℕ) (w : ℕ) → InBounds (pageFor s w) → (b : Bool) → isLine 80 34 s (74 * w) ≡ b → size (drawnFrom s w) ≤ 300000

@@ -102,14 +102,14 @@ reason n =
     (ascii "This is no printed list of a sheet."))))))))))
 
 -- the number of the X line at a place, 0 where there is none
-unfoldable pub numberOf : List ℕ → ℕ → ℕ
-numberOf s line = cond (isLine letters.X 18 s line) (placeOf s line 0 - 10000000) 0
+unfoldable pub refusalNumber : List ℕ → ℕ → ℕ
+refusalNumber s line = cond (isLine letters.X 18 s line) (placeOf s line 0 - 10000000) 0
 
 unfoldable pub refusal : List ℕ → ℕ → List (List ℕ)
 refusal s line =
     head s 720 110
     ++ (filled (ascii "<text class=\"title\" x=\"40\" y=\"44\">Refused: number $0, at record $1</text>\n<text x=\"40\" y=\"76\">") s line []
-    ++ (filled (reason (numberOf s line)) s 0 []
+    ++ (filled (reason (refusalNumber s line)) s 0 []
     ++ filled (ascii "</text>\n</svg>\n") s 0 []))
 
 -- ---- RULES 7.10: the drawing of a list, whose W lines come first

@@ -19,7 +19,7 @@ ghost use mathlib.Core.List.{[]};
 ghost use Prim.Native.Nat.{_*_, _≤_};
 ghost use Rattle.drawing.specs.Pieces.{emits, filled};
 ghost use Rattle.drawing.specs.Pages.{InBounds};
-ghost use Rattle.drawing.specs.Pictures.{accepted, reason, numberOf, refusal, drawnFrom, drawnIn};
+ghost use Rattle.drawing.specs.Pictures.{accepted, reason, refusalNumber, refusal, drawnFrom, drawnIn};
 
 fn put_accepted(out: &mut [u8], at: usize, page: Page, list: &[u8]) -> usize
     requires { ⌜ InBounds page ⌝ }
@@ -86,9 +86,9 @@ fn put_reason(out: &mut [u8], at: usize, list: &[u8], n: usize) -> usize
 }
 
 // The number of the X line that begins there, 0 where there is none.
-fn number_of(list: &[u8], line: usize) -> usize
+fn refusal_number(list: &[u8], line: usize) -> usize
     requires { ⌜ line ≤ 1000000 ⌝ }
-    ensures { λ r. ⌜ r ≡ numberOf (now (list .entry)) line ⌝ }
+    ensures { λ r. ⌜ r ≡ refusalNumber (now (list .entry)) line ⌝ }
 {
     if is_line(list, line, b'X', 18) {
         return beyond(10000000, place_of(list, line, 0));
@@ -109,7 +109,7 @@ fn put_refusal(out: &mut [u8], at: usize, list: &[u8], line: usize) -> usize
         line,
         &[],
     );
-    let words = put_reason(out, title, list, number_of(list, line));
+    let words = put_reason(out, title, list, refusal_number(list, line));
     put_words(out, words, b"</text>\n</svg>\n", list)
 }
 

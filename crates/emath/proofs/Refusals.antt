@@ -12,7 +12,7 @@ use lib.Ieee.Scale.{round-same}
 use Rattle.emath.specs.Rectangles.{zeroF}
 use Rattle.emath.specs.Domain.{finite, within, bothOf, edgesOf, insideOut}
 use Rattle.emath.specs.Refusals.{when, lesser, least, orElse, lengthFault, pairFault, edgesFault, rectFault, outside, frameFault}
-use Rattle.emath.proofs.Tests.{bools, not-lt, T-of}
+use Rattle.emath.proofs.Tests.{both, bools, not-lt, T-of}
 use Rattle.emath.specs.declared.Rect.{Rect}
 
 nought : (s : Bool) (c : ℕ) → 0 < c → round binary32 (s && false) 0 c ≡ fin false 0 (pos 0)
@@ -60,10 +60,6 @@ unfolding edgesFault least
 edges-fit r h = when-none (edgesOf within r) 4 (lesser-none (when (not (edgesOf finite r)) 4) (when (not (edgesOf within r)) 5) h .1)
 
 -- ---- the quick way: edges that are within the limit have no fault
-both : (a b : Bool) → a && b ≡ true → (a ≡ true) × (b ≡ true)
-both true b h = (refl, h)
-both false b h = absurd (true≢false (sym h))
-
 within-finite : (x : Float) → within x ≡ true → finite x ≡ true
 unfolding within finite le lt eq neg ofBits
 within-finite nan h = absurd (true≢false (sym h))

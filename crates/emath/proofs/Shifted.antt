@@ -13,7 +13,7 @@ use Rattle.emath.specs.Rectangles.{nearUp, roundF, roundUi, roundRect}
 use Rattle.emath.specs.declared.Rect.{Rect}
 use Rattle.emath.specs.Implementation.Shifting.{shift, backInTicks, backRect}
 use Rattle.emath.specs.Steps.{tick, sgn, signed, val}
-use Rattle.emath.proofs.Tests.{or-split, is-yes}
+use Rattle.emath.proofs.Tests.{both, or-split}
 use Rattle.emath.proofs.Whole.{more, less, diff, within-natAbs}
 use Rattle.emath.proofs.Exact.{Small, val-is, sub-is}
 use Rattle.emath.proofs.Order.{factor-zero, val-mono, before}
@@ -25,10 +25,6 @@ use Rattle.emath.proofs.NearestWhole.{from-high, too-many, two-le}
 -- 2 ^ 23
 abbrev pub least : Float
 least = fin false 1 (pos 23)
-
-both-true : (a b : Bool) → a && b ≡ true → (a ≡ true) × (b ≡ true)
-both-true true b h = (refl, h)
-both-true false b h = absurd (is-yes false h)
 
 -- ---- floats that equal each other have one nearest whole number
 same-sign : (s t : Bool) → T (Bool·beq s t) → s ≡ t
@@ -112,7 +108,7 @@ module _ (r : Rect) (a b c d : Bool) (ea : a ≡ true → backInTicks (r .left) 
   pub all-back : a && (b && (c && d)) ≡ true → backRect r ≡ roundRect tick r
   unfolding roundRect
   all-back h =
-      let p = both-true a (b && (c && d)) h in
-      let q = both-true b (c && d) (p .1) in
-      let t = both-true c d (q .1) in
+      let p = both a (b && (c && d)) h in
+      let q = both b (c && d) (p .1) in
+      let t = both c d (q .1) in
       rw (ea (p .0), eb (q .0), ec (t .0), ed (t .1))

@@ -1,10 +1,15 @@
--- Facts on tests: two that imply each other are equal, an `or` has a side, an order of naturals decides its test. Assumes nothing.
-use mathlib.Core.Path.{_≡_, refl}
+-- Facts on tests: an `and` has both sides, an `or` has one, two that imply each other are equal, an order of naturals decides its test.
+-- Assumes nothing.
+use mathlib.Core.Path.{_≡_, refl, sym}
 use mathlib.Core.Logic.{_⊎_, inl, inr}
 use Prim.Native.Nat.{ℕ, _≤_, _<_}
 use native.Mathlib.Omega.{arith}
-use mathlib.Core.Bool.{Bool, true, false, not, _||_}
+use mathlib.Core.Bool.{Bool, true, false, not, _&&_, _||_, true≢false}
 use lib.Dec.{T, ltb, ltb→lt, lt→ltb}
+
+pub both : (a b : Bool) → a && b ≡ true → (a ≡ true) × (b ≡ true)
+both true b h = (refl, h)
+both false b h = absurd (true≢false (sym h))
 
 pub or-split : (a b : Bool) → T (a || b) → T a ⊎ T b
 or-split true b t = inl tt

@@ -2,7 +2,7 @@
 mod Puts
 pub mod Texts
 mod Letters
-mod Written
+pub mod Written
 pub mod Memories
 pub mod Places
 pub mod Printed

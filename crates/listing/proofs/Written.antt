@@ -118,7 +118,7 @@ pub record Ready (left n k : ℕ) (u : List ℕ) (cells : List ℤ) (p : Put) (c
   pub all : widgets (recordsFrom left u) ≡ length cs
   pub room : p .at + 74 * length cs ≤ length (p .out)
 
-no-lines : (n : ℕ) (rs : List Record) → widgetLines n rs [] ≡ []
+pub no-lines : (n : ℕ) (rs : List Record) → widgetLines n rs [] ≡ []
 unfolding widgetLines
 no-lines n [] = refl
 no-lines n (r ∷ rs) = refl

@@ -34,18 +34,10 @@ pairIn s i = record { x = lengthValue (lengthIn s i); y = lengthValue (lengthIn 
 -- ---- RULES 6.8, H: a layout, max_rect and the spacing
 -- a direction and an align, by the numbers of RULES 2.1 and 2.2
 unfoldable pub directionOf : ℕ → Direction
-directionOf n = either (eqb n 0) LeftToRight (either (eqb n 1) RightToLeft (either (eqb n 2) TopDown BottomUp))
-  where
-    either : Bool → Direction → Direction → Direction
-    either true a b = a
-    either false a b = b
+directionOf n = cond (eqb n 0) LeftToRight (cond (eqb n 1) RightToLeft (cond (eqb n 2) TopDown BottomUp))
 
 unfoldable pub alignOf : ℕ → Align
-alignOf n = either (eqb n 0) Min (either (eqb n 1) Center Max)
-  where
-    either : Bool → Align → Align → Align
-    either true a b = a
-    either false a b = b
+alignOf n = cond (eqb n 0) Min (cond (eqb n 1) Center Max)
 
 -- fields 0 to 5
 unfoldable pub layoutFits : List ℕ → Bool
@@ -136,12 +128,8 @@ recordAt s at = recordOf (drop at s)
 -- ---- RULES 6.5: how long a record is: the letter, eight columns for each field, the LF
 unfoldable pub fieldCount : ℕ → ℕ
 fieldCount b =
-    of (eqb b letters.H) 12 (of (eqb b letters.G) 6 (of (eqb b letters.W) 2 (of (eqb b letters.S) 1 (of (eqb b letters.R) 1 (of (eqb b letters.L) 1
-    (of (eqb b letters.K) 1 (of (eqb b letters.N) 1 (of (eqb b letters.T) 1 0))))))))
-  where
-    of : Bool → ℕ → ℕ → ℕ
-    of true a b = a
-    of false a b = b
+    cond (eqb b letters.H) 12 (cond (eqb b letters.G) 6 (cond (eqb b letters.W) 2 (cond (eqb b letters.S) 1 (cond (eqb b letters.R) 1
+    (cond (eqb b letters.L) 1 (cond (eqb b letters.K) 1 (cond (eqb b letters.N) 1 (cond (eqb b letters.T) 1 0))))))))
 
 abbrev pub size : List ℕ → ℕ
 size s = 2 + 8 * fieldCount (letter s)

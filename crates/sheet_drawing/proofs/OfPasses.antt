@@ -22,6 +22,7 @@ use Rattle.sheet.specs.Ticks.{ticks}
 use Rattle.sheet.specs.Slices.{eight}
 use Rattle.sheet.proofs.Walking.{at-most-one}
 use Rattle.listing.specs.Lists.{widgetLines, entryLines}
+use Rattle.listing.proofs.Written.{no-lines}
 use Rattle.drawing.specs.Pieces.{valueOf, fieldOf}
 use Rattle.drawing.specs.Pages.{isLine, linesFrom}
 use Rattle.drawing.proofs.Numbers.{small-text}
@@ -94,11 +95,6 @@ pub lines-none : (letter size most : ℕ) (s : List ℕ) (at : ℕ) → isLine l
 unfolding linesFrom
 lines-none letter size zero s at e = refl
 lines-none letter size (suc most) s at e = rw e
-
-pub no-lines : (n : ℕ) (rs : List Record) → widgetLines n rs [] ≡ []
-unfolding widgetLines
-no-lines n [] = refl
-no-lines n (r ∷ rs) = refl
 
 -- the first record is a W, or it is none
 pub widget-line : (n : ℕ) (r : Record) (rs : List Record) (c : Cell) (cs : List Cell) → eqb (widget r) 1 ≡ true → widgetLines n (r ∷ rs) (c ∷ cs) ≡ widgetLine n c ++ widgetLines (n + 1) rs cs

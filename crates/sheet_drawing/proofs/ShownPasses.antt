@@ -39,7 +39,8 @@ use Rattle.listing.proofs.Texts.{ticks-are}
 use Rattle.drawing.specs.Pieces.{fieldOf}
 use Rattle.sheet_drawing.specs.Shown.{Shows}
 use Rattle.drawing.specs.Pages.{columnsOf, rowsOf}
-use Rattle.sheet_drawing.proofs.OfPasses.{Ends, ends-other, columns-counted, rows-counted, none-counted, counted, Split, split, widgetLine, field-read, widget-line, no-widget, one-less, none-less, some-left, no-lines, line-long}
+use Rattle.listing.proofs.Written.{no-lines}
+use Rattle.sheet_drawing.proofs.OfPasses.{Ends, ends-other, columns-counted, rows-counted, none-counted, counted, Split, split, widgetLine, field-read, widget-line, no-widget, one-less, none-less, some-left, line-long}
 
 -- ---- whole ticks are small enough to be read
 tick-small : (x : Float) → Edge 5 x → natAbs (ticks 5 x) ≤ 9999999

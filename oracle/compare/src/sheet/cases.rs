@@ -1,5 +1,8 @@
 //! Sheets with their lists, those of RULES 9 first, written out by hand: no reference made them.
 
+mod corners;
+
+use self::corners::corners;
 use super::answers::Bytes;
 use super::listing::list;
 use super::reference::{COLUMNS, MOST_RECORDS};
@@ -209,7 +212,7 @@ fn accepted() -> Vec<Case> {
 }
 
 pub fn cases() -> Vec<Case> {
-    [settled(), refused(), accepted()]
+    [settled(), refused(), accepted(), corners()]
         .into_iter()
         .flatten()
         .collect()

@@ -214,7 +214,7 @@ unfolding drawnFrom
 drawn-by s w f true e = rw e (accepted-size (pageFor s w) s f)
 drawn-by s w f false e = let l = refusal-size s (74 * w) in rw e (omega (arith, l))
 
--- a list has at most 512 W lines, and its page is bounds
+-- a list has at most 512 W lines, and its page is in bounds
 pub drawing-size : (s : List ℕ) → length (drawing s) ≤ 300000
 unfolding drawing pieces
 drawing-size s = drawn-by s (linesFrom 512 87 74 s 0) (page-in-bounds s (linesFrom 512 87 74 s 0) (lines-few 512 87 74 s 0)) _ refl

@@ -1,4 +1,4 @@
-// GridLayout's calls on lent arrays: the cores of those in `grids`. Each holds for the grid that the settings one and the arrays make.
+// GridLayout's calls on lent arrays: the cores of those in `grids`. Each holds for the grid that settings, state and arrays make.
 use crate::GridLayout;
 use crate::GridSettings;
 use crate::GridState;

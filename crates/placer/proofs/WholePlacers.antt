@@ -64,7 +64,7 @@ module _ (k : ℕ) (l : k ≤ 6) where
   pub zero-whole-if : WholeIf k zeroF
   zero-whole-if t = grid-edge k (omega arith) (zero-grid k (omega arith)) t
 
-  -- an open edge, zeroIfOpen or not
+  -- an open edge, at its infinity or not
   open-whole-if : (i : Float) {v : Float} → WholeIf k v → WholeIf k (zeroIfOpen i v)
   unfolding zeroIfOpen
   open-whole-if i {v} f = go (eq v i)
@@ -106,7 +106,7 @@ module _ (k : ℕ) (l : k ≤ 6) where
         cursor = rect-whole (closed d (g .cursor)) (closed-if d (g .cursor) (w .cursor)) (unfold cursorFault in p .2);
       }
 
-  -- back: what is zeroIfOpen is an infinity, which is not within the limit
+  -- back: an open edge that counts as 0 is an infinity, which is not within the limit
   unopened : (t : Bool) (v : Float) → Edge k (zeroIfOpen (inf t) v) → WholeIf k v
   unfolding zeroIfOpen
   unopened t v e = go (eq v (inf t)) (eq-inf-is t v) e

@@ -37,7 +37,7 @@ centred-in-bounds B y H h le = go (halved B (2 * y + (H - h))) (halved B (2 * y 
     go (above p e) (below q f) = omega arith
     go (above p e) (above q f) = omega arith
 
--- halves upward would be bounds too: a control would keep its own height
+-- halves upward would stay in bounds too: a control would keep its own height
 pub upward-in-bounds : InBounds (λ y H h. (2 * y + (H - h) + 2 * h + 1) / 2 - (2 * y + (H - h) + 1) / 2)
 unfolding InBounds
 upward-in-bounds y H h le = (omega arith, omega arith)

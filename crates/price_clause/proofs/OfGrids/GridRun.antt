@@ -1,5 +1,5 @@
 -- An accepted run of controls and row ends in a grid is the engine's accepted run: the same frames, the same widgets, and the last placer's
--- engineState. Assumes nothing.
+-- state. Assumes nothing.
 use Prim.Native.Nat.{ℕ, suc, _+_, _≤_}
 use mathlib.Core.Path.{_≡_, refl, ap, sym, _∙_}
 use mathlib.Core.Bool.{Bool, true, false}

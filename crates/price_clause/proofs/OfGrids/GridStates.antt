@@ -1,4 +1,4 @@
--- The engine's view of a grid: its engineState and what it is given, read off a placer; and that the grid's cell, its widget, its advance and its
+-- The engine's view of a grid: its state and what it is given, read off a placer; and that the grid's cell, its widget, its advance and its
 -- end of row are the engine's. Assumes nothing.
 use Prim.Native.Nat.{ℕ, suc, _+_, _<_}
 use mathlib.Core.Path.{_≡_, refl}

@@ -1,4 +1,4 @@
--- One accepted record of a grid is the engine's step: a W gives the engine's frame, widget and next engineState, an E its next row, and what they
+-- One accepted record of a grid is the engine's step: a W gives the engine's frame, widget and next state, an E its next row, and what they
 -- reach is of the domain, as the engine asks. Assumes nothing.
 use Prim.Native.Nat.{ℕ, _<_}
 use mathlib.Core.Path.{_≡_, ap, sym, _∙_}

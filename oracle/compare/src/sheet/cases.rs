@@ -1,4 +1,5 @@
-//! Sheets with their lists, those of RULES 9 first, written out by hand: no reference made them.
+//! Sheets with their lists, those of RULES 9 first, written out by hand; the corners, as a program written from RULES gives
+//! them. No reference made them.
 
 mod corners;
 

@@ -1,4 +1,5 @@
-//! Sheets that tell a rule from one that is nearly it, by a corner that drawn sheets seldom meet. Each names its rule.
+//! Sheets that tell a rule from one that is nearly it, by a corner that drawn sheets seldom meet. Their lists are those
+//! that a program gives which was written from RULES alone.
 
 use super::{Case, case};
 

@@ -114,9 +114,6 @@ few n room h = go (ltb room n) (nltb→le room n) h
     go true f e = absurd (let z : _≡_ {A = ℕ} 8 0 = e in omega arith)
     go false f e = f tt
 
-few-none : (n room : ℕ) → n ≤ room → when (ltb room n) 8 ≡ 0
-few-none n room h = rw (not-lt room n h)
-
 -- what no fault says of each part
 pub record MemoryParts (m : Memory) : Type 0 where
   pub widths : entriesFault (widths m) ≡ 0

@@ -1,5 +1,5 @@
 -- The engine on any numbers, and that it follows the passes in whole steps where the numbers are exact.
-pub mod Passes
+pub mod EngineAnswers
 pub mod Engine
 pub mod Exact
 pub mod Embedding
@@ -7,7 +7,5 @@ mod AcceptedSteps
 mod GridSteps
 mod GridRuns
 pub mod Recorded
-mod Growth
 pub mod GridPasses
-pub mod StripPasses
 pub mod Arrays

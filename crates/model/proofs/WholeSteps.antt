@@ -2,7 +2,6 @@
 pub mod Model
 pub mod Lists
 pub mod Plates
-pub mod Strips
 pub mod Halves
 pub mod Heights
 pub mod Settled

@@ -1,13 +1,12 @@
--- What the engine's acceptance of a grid's or a strip's records says of the first of them. Assumes nothing.
+-- What the engine's acceptance of a grid's records says of the first of them. Assumes nothing.
 use mathlib.Core.Path.{_≡_, sym}
 use mathlib.Core.List.{List, [], _∷_}
 use mathlib.Core.Bool.{Bool}
 use Prim.Native.Nat.{ℕ, suc}
 use lib.Dec.{T}
-use Rattle.model.proofs.AnyNumbers.Passes.{accepted, guard-yes, on-yes, accepted-same}
-use Rattle.model.proofs.AnyNumbers.Engine.{Ops, Edges, EngineState, Given, Move, place, finish, Out, more, nextCell, widget, advance, endRow, runF, Cursor, StripHead, stripFrame, stripWidget, stripAdvance, stripF}
+use Rattle.model.proofs.AnyNumbers.EngineAnswers.{accepted, guard-yes, on-yes, accepted-same}
+use Rattle.model.proofs.AnyNumbers.Engine.{Ops, Edges, EngineState, Given, Move, place, finish, Out, more, nextCell, widget, advance, endRow, runF}
 
--- ---- grids
 module _ {F : Type 0} (o : Ops F) (g : Given F) (also : EngineState F → Move F → Bool) (s : EngineState F) (n : ℕ) (l : List (Move F)) (r : Out F (EngineState F)) where
   module _ (w h : F) where
     abbrev frameAt : Edges F
@@ -43,40 +42,3 @@ module _ {F : Type 0} (o : Ops F) (g : Given F) (also : EngineState F → Move F
   pub done-yes : runF o g also s n [] ≡ accepted r → record { frames = []; widgets = []; last = s } ≡ r
   unfolding runF
   done-yes e = accepted-same e
-
--- ---- strips
-module _ {F : Type 0} (o : Ops F) (h : StripHead F) (also : Cursor F → Move F → Bool) (s : Cursor F) (n : ℕ) (l : List (Move F)) (r : Out F (Cursor F)) where
-  module _ (w z : F) where
-    abbrev frameS : Edges F
-    frameS = stripFrame o h s w z
-
-    abbrev widgetS : Edges F
-    widgetS = stripWidget o h frameS w z
-
-    abbrev afterS : Cursor F
-    afterS = stripAdvance o h s frameS widgetS
-
-    pub record PlacedS : Type 0 where
-      pub right : T (o .inside (frameS .right))
-      pub bottom : T (o .inside (frameS .bottom))
-      pub next : T (o .inside (afterS .x))
-      pub rest : Out F (Cursor F)
-      pub then : stripF o h also afterS (suc n) l ≡ accepted rest
-      pub is : r ≡ more frameS widgetS rest
-
-    pub placedS-yes : stripF o h also s n (place w z ∷ l) ≡ accepted r → PlacedS
-    unfolding stripF
-    placedS-yes e =
-        let a = guard-yes 9 n _ _ (guard-yes 9 n _ _ e .1) in
-        let b = guard-yes 9 n _ _ (a .1) in
-        let c = guard-yes 9 n _ _ (b .1) in
-        let x = on-yes _ _ (c .1) in
-        record { right = a .0; bottom = b .0; next = c .0; rest = x .0; then = x .1; is = sym (accepted-same (x .2)) }
-
-  pub endedS-yes : stripF o h also s n (finish ∷ l) ≡ accepted r → stripF o h also s (suc n) l ≡ accepted r
-  unfolding stripF
-  endedS-yes e = guard-yes 9 n _ _ e .1
-
-  pub doneS-yes : stripF o h also s n [] ≡ accepted r → record { frames = []; widgets = []; last = s } ≡ r
-  unfolding stripF
-  doneS-yes e = accepted-same e

@@ -1,12 +1,10 @@
--- The engine: passes over strips and grids on any numbers, as layout.rs and grid.rs state them, with the least tests under which they follow
+-- The engine: passes over grids on any numbers, as layout.rs and grid.rs state them, with the least tests under which they follow
 -- the passes in whole steps. `also` stands for whatever else a pass turns back. Assumes nothing.
 use mathlib.Core.List.{List, [], _∷_}
 use mathlib.Core.Bool.{Bool, true, false, cond}
 use Prim.Native.Nat.{ℕ, zero, suc}
 use lib.ListN.{getD}
-use Rattle.emath.specs.declared.Align.{Align}
-use Rattle.emath.specs.declared.Align.the-variants.{Min, Center, Max}
-use Rattle.model.proofs.AnyNumbers.Passes.{Answer, accepted, guard, on, passes}
+use Rattle.model.proofs.AnyNumbers.EngineAnswers.{Answer, accepted, guard, on}
 
 -- the numbers: zero, the lesser and the greater, half, to whole steps, "within the limit"
 pub record Ops (F : Type 0) : Type 0 where
@@ -176,63 +174,3 @@ module _ {F : Type 0} (o : Ops F) (also : Given F → EngineState F → Move F �
 
   abbrev pub laterF : MemF F → Answer (Out F (EngineState F))
   laterF m = passF false m
-
-  abbrev pub nthF : ℕ → Answer (Out F (EngineState F))
-  nthF n = passes memoryF laterF firstF n
-
--- ---- strips: a frame from the cursor on, as large as the control; the control aligned in it; the cursor behind the control
-
-pub record Cursor (F : Type 0) : Type 0 where
-  pub x : F
-  pub plate : Edges F
-
--- what H says of a strip: the main align, max_rect's corner, where min_rect starts too, and the spacing across
-pub record StripHead (F : Type 0) : Type 0 where
-  pub align : Align
-  pub left : F
-  pub top : F
-  pub gap : F
-
-module _ {F : Type 0} (o : Ops F) where
-  -- align of a size z between two edges
-  unfoldable pub lowOf : Align → F → F → F → F
-  lowOf Min a b z = a
-  lowOf Center a b z = o .sub (o .half (o .add a b)) (o .half z)
-  lowOf Max a b z = o .sub b z
-
-  unfoldable pub highOf : Align → F → F → F → F
-  highOf Min a b z = o .add a z
-  highOf Center a b z = o .add (o .sub (o .half (o .add a b)) (o .half z)) z
-  highOf Max a b z = b
-
-  module _ (h : StripHead F) where
-    unfoldable pub stripFrame : Cursor F → F → F → Edges F
-    stripFrame s w z = record { left = o .round (s .x); top = o .round (h .top); right = o .round (o .add (s .x) w); bottom = o .round (o .add (h .top) z) }
-
-    unfoldable pub stripWidget : Edges F → F → F → Edges F
-    stripWidget f w z = record {
-      left = o .round (lowOf (h .align) (f .left) (f .right) w);
-      top = o .round (f .top);
-      right = o .round (highOf (h .align) (f .left) (f .right) w);
-      bottom = o .round (o .add (f .top) z);
-    }
-
-    unfoldable pub stripAdvance : Cursor F → Edges F → Edges F → Cursor F
-    stripAdvance s f v = record { x = o .add (v .right) (h .gap); plate = united o (s .plate) f }
-
-    unfoldable pub stripF : (Cursor F → Move F → Bool) → Cursor F → ℕ → List (Move F) → Answer (Out F (Cursor F))
-    stripF also s n [] = accepted (record { frames = []; widgets = []; last = s })
-    stripF also s n (place w z ∷ l) =
-        guard 9 n (also s (place w z))
-        (let f = stripFrame s w z in
-        guard 9 n (o .inside (f .right)) (guard 9 n (o .inside (f .bottom))
-        (let v = stripWidget f w z in
-        let t = stripAdvance s f v in guard 9 n (o .inside (t .x)) (put f v (stripF also t (suc n) l)))))
-    stripF also s n (finish ∷ l) = guard 9 n (also s finish) (stripF also s (suc n) l)
-
-abbrev pub stripBegin : {F : Type 0} → StripHead F → Cursor F
-stripBegin h = record { x = h .left; plate = record { left = h .left; top = h .top; right = h .left; bottom = h .top } }
-
--- a strip's pass; H is record 1
-unfoldable pub stripPassF : {F : Type 0} → Ops F → (Cursor F → Move F → Bool) → StripHead F → List (Move F) → Answer (Out F (Cursor F))
-stripPassF o also h l = stripF o h also (stripBegin h) 2 l

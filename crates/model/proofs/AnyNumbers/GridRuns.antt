@@ -8,7 +8,7 @@ use native.Mathlib.Omega.{arith}
 use lib.ListN.{getD}
 use Rattle.model.proofs.WholeSteps.Model.{Step, W, E, Plate, include, plateOf, Heading, Memory, State, cell, afterW, afterE, frames, final, InBounds}
 use Rattle.model.proofs.WholeSteps.Halves.{centred, centred-in-bounds}
-use Rattle.model.proofs.AnyNumbers.Passes.{accepted}
+use Rattle.model.proofs.AnyNumbers.EngineAnswers.{accepted}
 use Rattle.model.proofs.AnyNumbers.Engine.{Ops, Edges, EngineState, Given, Move, Out, more, nextCell, widget, advance, runF}
 use Rattle.model.proofs.AnyNumbers.Exact.{Exact}
 use Rattle.model.proofs.AnyNumbers.Embedding.{edges, boxEdges, engineState, givenOf, moves, Upto, upto-getD, upto-lift, Fits, control, end, FineHeading, Boxes, FinePlate, FineState}

@@ -1,5 +1,5 @@
--- The same in whole steps, as a slice or a list of them has it: an edge times 2 ^ k, read as an integer. Of two accepted passes of the engine
--- on f32, the second with larger controls, no frame is less and the plate is no smaller. Assumes nothing.
+-- The same in whole steps, as a slice or a list of them has it: an edge times 2 ^ k, read as an integer. Of two accepted passes of a grid by
+-- the engine on f32, the second with larger controls, no frame is less and the plate is no smaller. Assumes nothing.
 use mathlib.Core.Path.{_≡_}
 use mathlib.Core.Bool.{Bool}
 use mathlib.Core.List.{List, map, Forall₂, Forall₂·nil, Forall₂·cons}
@@ -11,17 +11,14 @@ use lib.Ieee.{Float, binary32, mul, toSigned, inSigned}
 use Rattle.emath.specs.Steps.{two, most}
 use Rattle.emath.proofs.Whole.{_≤ᶻ_, diff}
 use Rattle.emath.proofs.Casts.{points-to-steps}
-use Rattle.model.proofs.WholeSteps.Model.{Step, Grown, Box, NoLess, Plate, Larger, stripFrames, Heading}
-use Rattle.model.proofs.WholeSteps.Plates.{upright}
-use Rattle.model.proofs.WholeSteps.Strips.{strips-grow}
+use Rattle.model.proofs.WholeSteps.Model.{Step, Grown, Box, NoLess, Plate, Larger, Heading}
 use Rattle.model.proofs.WholeSteps.Halves.{centred, centred-in-bounds}
 use Rattle.model.proofs.WholeSteps.Settled.{settled}
 use Rattle.model.proofs.WholeSteps.Grids.{grids-grow, pass-upright}
-use Rattle.model.proofs.AnyNumbers.Passes.{accepted}
-use Rattle.model.proofs.AnyNumbers.Engine.{Edges, EngineState, Given, Cursor, Move, Out, memoryF, firstF, laterF, stripPassF}
+use Rattle.model.proofs.AnyNumbers.EngineAnswers.{accepted}
+use Rattle.model.proofs.AnyNumbers.Engine.{Edges, EngineState, Given, Move, Out, memoryF, firstF, laterF}
 use Rattle.model.proofs.AnyNumbers.Embedding.{boxEdges, plateEdges, headOf, moves, Fits, FineHeading, Boxes, FinePlate}
 use Rattle.model.proofs.AnyNumbers.GridPasses.{second-is}
-use Rattle.model.proofs.AnyNumbers.StripPasses.{Strip, stripHead, corner, strip-pass-is}
 use Rattle.model.proofs.InFloats.Ticks.{at, at-parts, pt, len, cap, small-at}
 use Rattle.model.proofs.InFloats.Floats.{ops, exact}
 
@@ -85,17 +82,6 @@ module _ (k B : ℕ) (l : k ≤ 6) (b : B ≡ most k) where
         wide = span-mono B (p .left) (p .right) (q .left) (q .right) (omega arith);
         tall = span-mono B (p .top) (p .bottom) (q .top) (q .bottom) (omega arith);
       })
-
-  pub strips-in-ticks : (also : Cursor Float → Move Float → Bool) (h : Strip B) {m n : List Step} → Grown m n → Fits B m → Fits B n → (x y : Out Float (Cursor Float))
-      → stripPassF (ops k) also (stripHead (pt k B) (len k) h) (moves (len k) m) ≡ accepted x → stripPassF (ops k) also (stripHead (pt k B) (len k) h) (moves (len k) n) ≡ accepted y
-      → Forall₂ Frame≤ (map (ticks k) (x .frames)) (map (ticks k) (y .frames)) × Plate≤ (ticks k (x .last .plate)) (ticks k (y .last .plate))
-  strips-in-ticks also h {m} {n} g fm fn x y p q =
-      let s = strip-pass-is (exact k B l b) also h m x fm p in
-      let t = strip-pass-is (exact k B l b) also h n y fn q in
-      let w = strips-grow (h .gap) (h .top) (h .left) (corner h) g in
-      let u = upright (corner h) (stripFrames (h .gap) (h .top) (h .left) m) (omega arith) (omega arith) in
-      let v = upright (corner h) (stripFrames (h .gap) (h .top) (h .left) n) (omega arith) (omega arith) in
-      rw (s .frames-are, t .frames-are, s .plate-is, t .plate-is) (frames≤ (w .0) (s .boxes) (t .boxes), plate≤ _ _ (w .1) u v (s .plate-fine) (t .plate-fine))
 
   pub grids-in-ticks : (also : Given Float → EngineState Float → Move Float → Bool) (g : Heading) → FineHeading B g → {m n : List Step} → Grown m n → Fits B m → Fits B n → (x y x′ y′ : Out Float (EngineState Float))
       → firstF (ops k) also (headOf (pt k B) (len k) g) (moves (len k) m) ≡ accepted x → laterF (ops k) also (headOf (pt k B) (len k) g) (moves (len k) m) (memoryF x) ≡ accepted y

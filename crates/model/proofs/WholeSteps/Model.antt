@@ -50,12 +50,6 @@ pub record Larger (p q : Plate) : Type 0 where
   pub width : p .right - p .left ≤ q .right - q .left
   pub height : p .bottom - p .top ≤ q .bottom - q .top
 
--- ---- strips: the frames from x on, with the top y
-unfoldable pub stripFrames : ℕ → ℕ → ℕ → List Step → List Box
-stripFrames gap y x [] = []
-stripFrames gap y x (W w h ∷ l) = box x y w h ∷ stripFrames gap y (x + w + gap) l
-stripFrames gap y x (E ∷ l) = stripFrames gap y x l
-
 -- ---- grids
 
 -- max_rect's left top corner, the minimum cell, the spacing, the start row, and the point where min_rect starts

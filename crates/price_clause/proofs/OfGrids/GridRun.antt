@@ -17,7 +17,7 @@ use Rattle.placer.specs.declared.Placer.{Placer}
 use Rattle.records.specs.declared.Step.{Step}
 use Rattle.records.specs.declared.Step.the-variants.{Widget, RowEnd}
 use Rattle.model.proofs.WholeSteps.Model as model
-use Rattle.model.proofs.AnyNumbers.Passes.{Answer, accepted, guard, on}
+use Rattle.model.proofs.AnyNumbers.EngineAnswers.{Answer, accepted, guard, on}
 use Rattle.model.proofs.AnyNumbers.Engine as engine
 use Rattle.model.proofs.AnyNumbers.Engine.{Ops, Edges, EngineState, Given, Move, place, finish, Out, more, runF}
 use Rattle.model.proofs.AnyNumbers.Embedding.{moves}

@@ -11,7 +11,7 @@ use Rattle.grid.specs.declared.Memory.{Memory}
 use Rattle.placer.proofs.Carried.{new-sound}
 use Rattle.records.specs.declared.Heading.{Heading}
 use Rattle.model.proofs.WholeSteps.Model as model
-use Rattle.model.proofs.AnyNumbers.Passes.{accepted}
+use Rattle.model.proofs.AnyNumbers.EngineAnswers.{accepted}
 use Rattle.model.proofs.AnyNumbers.Engine.{EngineState, Given, Move, Out, HeadF, MemF, memoryF, beginF, runF, passF, firstF, laterF}
 use Rattle.model.proofs.AnyNumbers.Embedding.{moves, headOf, FineHeading, Fits}
 use Rattle.model.proofs.InFloats.Ticks.{pt, len}

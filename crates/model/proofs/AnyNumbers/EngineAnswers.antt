@@ -1,8 +1,7 @@
--- Passes in turn, each with the memory of the one before: once a pass gives back the memory that it was given, all after it are that one,
--- however many. Assumes nothing.
-use mathlib.Core.Path.{_≡_, refl, _∙_, ap}
+-- What the engine answers, accepted or refused, one answer after the other; and what an accepted one says of its parts. Assumes nothing.
+use mathlib.Core.Path.{_≡_, refl}
 use mathlib.Core.Bool.{Bool, true, false}
-use Prim.Native.Nat.{ℕ, zero, suc}
+use Prim.Native.Nat.{ℕ}
 use native.Mathlib.Omega.{arith}
 use lib.Dec.{T}
 
@@ -34,17 +33,3 @@ pub on-yes : {P Q : Type 0} (a : Answer P) (f : P → Answer Q) {y : Q} → on a
 unfolding on
 on-yes (refused n r) f e = absurd (let z : _≡_ {A = ℕ} 0 1 = cc in omega arith)
 on-yes (accepted x) f e = (x, refl, e)
-
--- ---- all further passes
-module _ {M P : Type 0} (memory : P → M) (later : M → Answer P) where
-  -- pass number n, from 0
-  unfoldable pub passes : Answer P → ℕ → Answer P
-  unfolding on
-  passes first zero = first
-  passes first (suc n) = on (passes first n) (λ p. later (memory p))
-
-  pub again : (first : Answer P) (a b : P) → first ≡ accepted a → later (memory a) ≡ accepted b → later (memory b) ≡ later (memory a)
-      → (n : ℕ) → passes first (suc n) ≡ accepted b
-  unfolding on passes
-  again first a b p q e zero = ap (λ (x : Answer P). on x (λ y. later (memory y))) p ∙ q
-  again first a b p q e (suc n) = ap (λ (x : Answer P). on x (λ y. later (memory y))) (again first a b p q e n) ∙ e ∙ q

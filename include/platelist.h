@@ -68,8 +68,8 @@ enum {
     PLATELIST_NEGATIVE = 6,    /* a size is negative, or a rectangle inside out */
     PLATELIST_NOT_IN_GRID = 7, /* an S in a grid; a grid from right to left or upward */
     PLATELIST_GRID_FULL = 8,   /* more than 32 columns or 128 rows */
-    PLATELIST_OUTSIDE = 9,     /* a result would lie outside the range of lengths */
-    PLATELIST_INSIDE_OUT = 10  /* a frame would be inside out */
+    PLATELIST_OUTSIDE = 9      /* a result would lie outside the range of lengths */
+    /* 10 stays free: it was kept for a frame that is inside out, and there is none. */
 };
 
 /* ---- Layout ---- */

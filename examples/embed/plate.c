@@ -26,7 +26,6 @@ static const char *const refusals[] = {
     "a gap in a grid, or a grid from right to left or upward",
     "the grid is full",
     "it would leave the range of lengths",
-    "its frame would be inside out",
 };
 
 static double points(int32_t ticks) {

@@ -7,7 +7,7 @@ use std::io::{self, Read, Write};
 const TICKS_PER_POINT: f64 = 32.0;
 const PLACES: usize = 4096;
 
-const REFUSALS: [&str; 11] = [
+const REFUSALS: [&str; 10] = [
     "accepted",
     "it is malformed, out of its place or out of range",
     "there is more after the 512th",
@@ -18,7 +18,6 @@ const REFUSALS: [&str; 11] = [
     "a gap in a grid, or a grid from right to left or upward",
     "the grid is full",
     "it would leave the range of lengths",
-    "its frame would be inside out",
 ];
 
 extern "C" {

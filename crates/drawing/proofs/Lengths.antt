@@ -184,22 +184,27 @@ module _ (p : Page) (s : List ℕ) where
       omega (arith, l)
 
 -- ---- a refusal
-words-by : (n : ℕ) (b1 b2 b3 b4 b5 b6 b7 b8 b9 b10 : Bool) → eqb n 1 ≡ b1 → eqb n 2 ≡ b2 → eqb n 3 ≡ b3 → eqb n 4 ≡ b4 → eqb n 5 ≡ b5 → eqb n 6 ≡ b6 → eqb n 7 ≡ b7 → eqb n 8 ≡ b8 → eqb n 9 ≡ b9 → eqb n 10 ≡ b10 → most 0 (reason n) ≤ 78
+-- the longest sentence has 78 bytes
+either-words : (b : Bool) (x y : List ℕ) → most 0 x ≤ 78 → most 0 y ≤ 78 → most 0 (cond b x y) ≤ 78
+either-words true x y h k = h
+either-words false x y h k = k
+
+words-most : (n : ℕ) → most 0 (reason n) ≤ 78
 unfolding reason most taken marked next
-words-by n true _ _ _ _ _ _ _ _ _ e1 _ _ _ _ _ _ _ _ _ = rw (e1) (lit≤ tt)
-words-by n false true _ _ _ _ _ _ _ _ e1 e2 _ _ _ _ _ _ _ _ = rw (e1, e2) (lit≤ tt)
-words-by n false false true _ _ _ _ _ _ _ e1 e2 e3 _ _ _ _ _ _ _ = rw (e1, e2, e3) (lit≤ tt)
-words-by n false false false true _ _ _ _ _ _ e1 e2 e3 e4 _ _ _ _ _ _ = rw (e1, e2, e3, e4) (lit≤ tt)
-words-by n false false false false true _ _ _ _ _ e1 e2 e3 e4 e5 _ _ _ _ _ = rw (e1, e2, e3, e4, e5) (lit≤ tt)
-words-by n false false false false false true _ _ _ _ e1 e2 e3 e4 e5 e6 _ _ _ _ = rw (e1, e2, e3, e4, e5, e6) (lit≤ tt)
-words-by n false false false false false false true _ _ _ e1 e2 e3 e4 e5 e6 e7 _ _ _ = rw (e1, e2, e3, e4, e5, e6, e7) (lit≤ tt)
-words-by n false false false false false false false true _ _ e1 e2 e3 e4 e5 e6 e7 e8 _ _ = rw (e1, e2, e3, e4, e5, e6, e7, e8) (lit≤ tt)
-words-by n false false false false false false false false true _ e1 e2 e3 e4 e5 e6 e7 e8 e9 _ = rw (e1, e2, e3, e4, e5, e6, e7, e8, e9) (lit≤ tt)
-words-by n false false false false false false false false false true e1 e2 e3 e4 e5 e6 e7 e8 e9 e10 = rw (e1, e2, e3, e4, e5, e6, e7, e8, e9, e10) (lit≤ tt)
-words-by n false false false false false false false false false false e1 e2 e3 e4 e5 e6 e7 e8 e9 e10 = rw (e1, e2, e3, e4, e5, e6, e7, e8, e9, e10) (lit≤ tt)
+words-most n =
+    either-words (eqb n 1) _ _ (lit≤ tt)
+    (either-words (eqb n 2) _ _ (lit≤ tt)
+    (either-words (eqb n 3) _ _ (lit≤ tt)
+    (either-words (eqb n 4) _ _ (lit≤ tt)
+    (either-words (eqb n 5) _ _ (lit≤ tt)
+    (either-words (eqb n 6) _ _ (lit≤ tt)
+    (either-words (eqb n 7) _ _ (lit≤ tt)
+    (either-words (eqb n 8) _ _ (lit≤ tt)
+    (either-words (eqb n 9) _ _ (lit≤ tt)
+    (lit≤ tt)))))))))
 
 words-size : (s : List ℕ) (n : ℕ) → size (filled (reason n) s 0 []) ≤ 78
-words-size s n = let l : most 0 (reason n) ≤ 78 = words-by n _ _ _ _ _ _ _ _ _ _ refl refl refl refl refl refl refl refl refl refl in omega (arith, filled-size 0 (reason n) s 0 [])
+words-size s n = omega (arith, words-most n, filled-size 0 (reason n) s 0 [])
 
 refusal-size : (s : List ℕ) (line : ℕ) → size (refusal s line) ≤ 833 + (106 + (78 + 15))
 unfolding refusal most taken marked next

@@ -98,8 +98,7 @@ reason n =
     (cond (eqb n 7) (ascii "A gap (S) stands in a grid, or a grid runs from right to left or upward.")
     (cond (eqb n 8) (ascii "The grid is full: it has at most 32 columns and 128 rows.")
     (cond (eqb n 9) (ascii "The result would lie outside the domain: beyond 65,536 points, or without end.")
-    (cond (eqb n 10) (ascii "A computed frame is inside out.")
-    (ascii "This is no printed list of a sheet."))))))))))
+    (ascii "This is no printed list of a sheet.")))))))))
 
 -- the number of the X line at a place, 0 where there is none
 unfoldable pub refusalNumber : List ℕ → ℕ → ℕ

@@ -80,7 +80,6 @@ fn put_reason(out: &mut [u8], at: usize, list: &[u8], n: usize) -> usize
             b"The result would lie outside the domain: beyond 65,536 points, or without end.",
             list,
         ),
-        10 => put_words(out, at, b"A computed frame is inside out.", list),
         _ => put_words(out, at, b"This is no printed list of a sheet.", list),
     }
 }

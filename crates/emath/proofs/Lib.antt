@@ -13,8 +13,11 @@ pub mod Rounding
 mod NearestWhole
 mod Shifted
 pub mod Unique
-mod RoundOrder
+pub mod RoundOrder
 pub mod Edges
 pub mod Centres
 pub mod Sums
+mod SumOrder
+pub mod Binary32
 pub mod Refusals
+pub mod Upright

@@ -1,17 +1,19 @@
 -- Laws of the refusals: what is finite, what a fault of 0 says of the parts, and that edges within the limit have none. Assumes nothing.
 use mathlib.Core.Path.{_≡_, refl, sym, _∙_}
-use Prim.Native.Nat.{ℕ, _*_, _<_, zero, suc}
+use mathlib.Core.Logic.{_⊎_, inl, inr}
+use Prim.Native.Nat.{ℕ, _*_, _<_, _≤_, zero, suc}
 use native.Mathlib.Nat.{sub-self, mul-pos}
 use native.Mathlib.Omega.{arith}
 use mathlib.Core.Bool.{Bool, true, false, cond, not, _&&_, true≢false}
-use lib.Dec.{T, eqb, ltb, eqb→eq}
+use lib.Dec.{T, eqb, ltb, eqb→eq, ltb→lt, nltb→le}
+use borrow.Author.Tests.{eq-eqb, eqb-true}
 use lib.IntN.{pos}
 use lib.Ieee.{Float, nan, inf, fin, binary32, ofBits, up, down, round, sum, add, sub, neg, eq, lt, le}
 use lib.Ieee.Fits.{down-pos}
 use lib.Ieee.Scale.{round-same}
 use Rattle.emath.specs.Rectangles.{zeroF}
 use Rattle.emath.specs.Domain.{finite, within, bothOf, edgesOf, insideOut}
-use Rattle.emath.specs.Refusals.{when, lesser, least, orElse, lengthFault, pairFault, edgesFault, rectFault, outside, frameFault}
+use Rattle.emath.specs.Refusals.{when, lesser, least, orElse, lengthFault, pairFault, edgesFault, rectFault, outside}
 use Rattle.emath.proofs.Tests.{both, bools, not-lt, T-of}
 use Rattle.emath.specs.declared.Rect.{Rect}
 
@@ -33,7 +35,7 @@ finite-is (inf false) = refl
 finite-is (fin s m e) = rw (lost s (m * up e * down e) (down e * down e) (mul-pos (down-pos e) (down-pos e)))
 
 -- ---- no number: none of its parts has one
-some : (n : ℕ) → eqb (suc n) 0 ≡ false
+pub some : (n : ℕ) → eqb (suc n) 0 ≡ false
 some n = bools (eqb (suc n) 0) false (λ (t : T (eqb (suc n) 0)). absurd (omega (arith, eqb→eq (suc n) 0 t))) (λ (t : ⊥). absurd t)
 
 pick-some : (t : Bool) (a b : ℕ) → cond t (suc a) (suc b) ≡ 0 → ⊥
@@ -45,6 +47,56 @@ unfolding lesser
 lesser-none zero b h = (refl, h)
 lesser-none (suc a) zero h = absurd (let z : suc a ≡ 0 = rw (some a) at h in omega arith)
 lesser-none (suc a) (suc b) h = absurd (pick-some (ltb (suc a) (suc b)) a b (rw (some a, some b) at h))
+
+-- ---- the lesser of two: 0 is none, and it does not matter which two are taken first
+pub zero-lesser : (n : ℕ) → lesser 0 n ≡ n
+unfolding lesser
+zero-lesser n = refl
+
+pub lesser-zero : (n : ℕ) → lesser n 0 ≡ n
+unfolding lesser
+lesser-zero zero = refl
+lesser-zero (suc n) = rw (some n)
+
+lesser-first : (a b : ℕ) → a ≤ b → lesser (suc a) (suc b) ≡ suc a
+unfolding lesser
+lesser-first a b h = rw (some a, some b) (go (ltb (suc a) (suc b)) (nltb→le (suc a) (suc b)))
+  where
+    go : (t : Bool) → (T (not t) → suc b ≤ suc a) → cond t (suc a) (suc b) ≡ suc a
+    go true f = refl
+    go false f = let l = f tt in omega arith
+
+lesser-second : (a b : ℕ) → b ≤ a → lesser (suc a) (suc b) ≡ suc b
+unfolding lesser
+lesser-second a b h = rw (some a, some b, not-lt (suc a) (suc b) (omega arith))
+
+either-way : (a b : ℕ) → (a ≤ b) ⊎ (b ≤ a)
+either-way a b = go (ltb a b) (ltb→lt a b) (nltb→le a b)
+  where
+    go : (t : Bool) → (T t → a < b) → (T (not t) → b ≤ a) → (a ≤ b) ⊎ (b ≤ a)
+    go true f g = let l = f tt in inl (omega arith)
+    go false f g = inr (g tt)
+
+pub lesser-assoc : (a b c : ℕ) → lesser a (lesser b c) ≡ lesser (lesser a b) c
+lesser-assoc zero b c = rw (zero-lesser b) (zero-lesser (lesser b c))
+lesser-assoc (suc a) zero c = rw (zero-lesser c, lesser-zero (suc a))
+lesser-assoc (suc a) (suc b) zero = rw (lesser-zero (suc b), lesser-zero (lesser (suc a) (suc b)))
+lesser-assoc (suc a) (suc b) (suc c) = elim (either-way a b) [
+  | inl p ↦ elim (either-way b c) [ inl q ↦ rw (lesser-first b c q, lesser-first a b p, lesser-first a c (omega arith)) | inr q ↦ rw (lesser-second b c q, lesser-first a b p) ]
+  | inr p ↦ elim (either-way b c) [ inl q ↦ rw (lesser-first b c q, lesser-second a b p, lesser-first b c q) | inr q ↦ rw (lesser-second b c q, lesser-second a b p, lesser-second b c q, lesser-second a c (omega arith)) ]
+]
+
+pub lesser-some : (a b : ℕ) → eqb a 0 ≡ false → eqb (lesser a b) 0 ≡ false
+lesser-some a b h = go (eqb (lesser a b) 0) refl
+  where
+    go : (t : Bool) → eqb (lesser a b) 0 ≡ t → t ≡ false
+    go true e = absurd (true≢false (sym (eq-eqb a 0 (lesser-none a b (eqb-true (lesser a b) 0 e) .0)) ∙ h))
+    go false e = refl
+
+-- ---- of two in turn
+pub or-some : (n m : ℕ) → eqb n 0 ≡ false → orElse n m ≡ n
+unfolding orElse
+or-some n m h = rw h
 
 pub or-none : (n m : ℕ) → orElse n m ≡ 0 → (n ≡ 0) × (m ≡ 0)
 unfolding orElse
@@ -60,7 +112,7 @@ unfolding edgesFault least
 edges-fit r h = when-none (edgesOf within r) 4 (lesser-none (when (not (edgesOf finite r)) 4) (when (not (edgesOf within r)) 5) h .1)
 
 -- ---- the quick way: edges that are within the limit have no fault
-within-finite : (x : Float) → within x ≡ true → finite x ≡ true
+pub within-finite : (x : Float) → within x ≡ true → finite x ≡ true
 unfolding within finite le lt eq neg ofBits
 within-finite nan h = absurd (true≢false (sym h))
 within-finite (inf true) h = absurd (true≢false (sym h))
@@ -83,7 +135,11 @@ pub pair-quick : (x y : Float) → bothOf within x y ≡ true → 0 ≡ pairFaul
 unfolding pairFault least lesser bothOf
 pair-quick x y h = let a = both (within x) (within y) h in rw (a .0, a .1, within-finite x (a .0), within-finite y (a .1))
 
--- ---- what no fault says
+-- ---- what a fault says, and none
+pub outside-some : (n : ℕ) → eqb n 0 ≡ false → outside n ≡ 9
+unfolding outside
+outside-some n h = rw h
+
 pub outside-none : (n : ℕ) → outside n ≡ 0 → n ≡ 0
 unfolding outside
 outside-none zero h = refl
@@ -110,7 +166,3 @@ rect-none r h = let p = lesser-none (edgesFault r) (when (insideOut r) 6) h in (
     out : (b : Bool) → when b 6 ≡ 0 → b ≡ false
     out true h = absurd (let z : _≡_ {A = ℕ} 6 0 = h in omega arith)
     out false h = refl
-
-pub frame-none : (r : Rect) → frameFault r ≡ 0 → edgesFault r ≡ 0
-unfolding frameFault least
-frame-none r h = outside-none (edgesFault r) (lesser-none (outside (edgesFault r)) (when (insideOut r) 10) h .0)

@@ -3,7 +3,7 @@ use mathlib.Core.Path.{_≡_, refl, ap, _∙_}
 use Prim.Native.Nat.{ℕ, zero, suc, _*_, _^_, _<_, _+_}
 use native.Mathlib.Nat.{mul-pos}
 use native.Mathlib.Omega.{arith}
-use mathlib.Core.Bool.{Bool, true, false, not, _||_, true≢false, Bool·beq}
+use mathlib.Core.Bool.{Bool, true, false, not, _||_, Bool·beq}
 use lib.Dec.{T, le→leb}
 use lib.IntN.{ℤ, natAbs}
 use lib.Signed.{leZ}
@@ -14,6 +14,7 @@ use mathlib.Core.Logic.{_⊎_, inl, inr}
 use Rattle.emath.specs.Rectangles.{nearUp, roundF, roundBy, roundUi, roundRect}
 use Rattle.emath.specs.Domain.{insideOut}
 use Rattle.emath.specs.Steps.{two, sgn, signed, val}
+use Rattle.emath.proofs.Tests.{neither}
 use Rattle.emath.proofs.Order.{Before, before, before-times, sign-round, factor-zero, round-le, val-mono}
 use Rattle.emath.proofs.OrderLaws.{Number, number, nan-or-number, lt-nan, le-not-lt, not-lt-le}
 use Rattle.emath.proofs.NearUp.{nearUp-le, near-mono}
@@ -203,7 +204,3 @@ unfolding insideOut roundRect
 round-not-inside-out k r h =
     let p = neither (lt (r .right) (r .left)) (lt (r .bottom) (r .top)) h in
     rw (round-not-below k (r .left) (r .right) (p .0), round-not-below k (r .top) (r .bottom) (p .1))
-  where
-    neither : (a b : Bool) → a || b ≡ false → (a ≡ false) × (b ≡ false)
-    neither true b h = absurd (true≢false h)
-    neither false b h = (refl, h)

@@ -1,4 +1,4 @@
--- Facts on tests: an `and` has both sides, an `or` has one, two that imply each other are equal, an order of naturals decides its test.
+-- Facts on tests: an `and` has both sides, an `or` has one or neither, two that imply each other are equal, an order of naturals decides its test.
 -- Assumes nothing.
 use mathlib.Core.Path.{_≡_, refl, sym}
 use mathlib.Core.Logic.{_⊎_, inl, inr}
@@ -22,6 +22,10 @@ or-l false b t = absurd t
 pub or-r : (a b : Bool) → T b → T (a || b)
 or-r true b t = tt
 or-r false b t = t
+
+pub neither : (a b : Bool) → a || b ≡ false → (a ≡ false) × (b ≡ false)
+neither true b h = absurd (true≢false h)
+neither false b h = (refl, h)
 
 pub bools : (a b : Bool) → (T a → T b) → (T b → T a) → a ≡ b
 bools true true f g = refl

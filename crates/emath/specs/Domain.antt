@@ -29,6 +29,14 @@ edgesOf t r = t (r .left) && (t (r .top) && (t (r .right) && t (r .bottom)))
 unfoldable pub negative : Vec2 → Bool
 negative v = lt (v .x) zeroF || lt (v .y) zeroF
 
+-- RULES 5.4: both parts are at least zero; with a NaN a size may be neither this nor negative
+unfoldable pub atLeastZero : Vec2 → Bool
+atLeastZero v = le zeroF (v .x) && le zeroF (v .y)
+
 -- RULES 5.4: a high edge is less than its low one
 unfoldable pub insideOut : Rect → Bool
 insideOut r = lt (r .right) (r .left) || lt (r .bottom) (r .top)
+
+-- RULES 5.4: each high edge is at least its low one; with a NaN a rectangle may be neither this nor inside out
+unfoldable pub upright : Rect → Bool
+upright r = le (r .left) (r .right) && le (r .top) (r .bottom)

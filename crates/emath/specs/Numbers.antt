@@ -37,7 +37,3 @@ gridFull = 8
 -- of what a call would answer: an edge outside the domain
 abbrev pub outside : ℕ
 outside = 9
-
--- a frame that is inside out
-abbrev pub insideOut : ℕ
-insideOut = 10

@@ -1,4 +1,4 @@
--- RULES 8.2, 8.5, 8.13, 8.14: which numbers lengths, sizes and rectangles have of their own, and which of several is the call's. 0 is none.
+-- RULES 8.2, 8.5, 8.13: which numbers lengths, sizes and rectangles have of their own, and which of several is the call's. 0 is none.
 use Prim.Native.Nat.{ℕ}
 use mathlib.Core.Bool.{Bool, cond, not}
 use mathlib.Core.List.{List, [], _∷_}
@@ -56,7 +56,3 @@ rectFault r = least (edgesFault r ∷ when (insideOut r) number.negative ∷ [])
 -- RULES 8.13: 9 for whatever number an answer has of its own
 unfoldable pub outside : ℕ → ℕ
 outside n = cond (eqb n 0) 0 number.outside
-
--- RULES 8.14: of a frame that was computed, 9, or else 10 where it is inside out
-unfoldable pub frameFault : Rect → ℕ
-frameFault r = least (outside (edgesFault r) ∷ when (insideOut r) number.insideOut ∷ [])

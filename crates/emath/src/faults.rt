@@ -1,13 +1,12 @@
 // RULES 8.5: the numbers that values of this crate's types have of their own. 0: none.
 ghost use mathlib.Core.Path.{_≡_};
-ghost use Rattle.emath.specs.Refusals.{when, lesser, orElse, lengthFault, extentFault, pairFault, sizeFault, edgesFault, rectFault, outside, frameFault};
+ghost use Rattle.emath.specs.Refusals.{when, lesser, orElse, lengthFault, extentFault, pairFault, sizeFault, edgesFault, rectFault, outside};
 use crate::Rect;
 use crate::Vec2;
 use crate::domain::both_finite;
 use crate::domain::both_within;
 use crate::domain::is_finite;
 use crate::domain::is_within;
-use crate::numbers::INSIDE_OUT;
 use crate::numbers::NEGATIVE;
 use crate::numbers::NOT_FINITE;
 use crate::numbers::OUTSIDE;
@@ -89,13 +88,4 @@ pub fn outside_domain(n: u8) -> u8
     ensures { λ r. ⌜ r ≡ outside n ⌝ }
 {
     if n == 0 { 0 } else { OUTSIDE }
-}
-
-pub fn frame_fault(r: Rect) -> u8
-    ensures { λ n. ⌜ n ≡ frameFault r ⌝ }
-{
-    lesser_number(
-        outside_domain(edges_fault(r)),
-        number_when(r.is_inside_out(), INSIDE_OUT),
-    )
 }

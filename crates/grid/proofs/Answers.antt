@@ -5,11 +5,11 @@ use mathlib.Core.List.{List}
 use Prim.Native.Nat.{ℕ, zero, suc, _≤_}
 use native.Mathlib.Omega.{arith}
 use lib.Dec.{ltb}
-use lib.ListN.{length, take, length-take}
+use lib.ListN.{take, length-take}
 use lib.Ieee.{Float}
 use borrow.Author.Tests.{ltb-false}
 use Rattle.emath.specs.Rectangles.{zeroF}
-use Rattle.region.proofs.Answers.{some}
+use Rattle.emath.proofs.Refusals.{some}
 use Rattle.grid.specs.Entries.{entry}
 use Rattle.grid.specs.Memories.{widths, heights, colWidth, rowHeight}
 use Rattle.grid.specs.Refusals.{lengthAnswer, entryAnswer, lengthNumber, lengthValue, lengthOrZero}

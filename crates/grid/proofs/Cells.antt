@@ -10,12 +10,11 @@ use Rattle.emath.proofs.Whole.{Within, sum, diff, whole}
 use Rattle.region.specs.Steps.{WholeRect}
 use Rattle.region.proofs.WholeRegions.{rounded-whole}
 use Rattle.emath.specs.Rectangles.{maxF, width, fromMinSize, leftCenter, alignedTo, alignOn, alignWithin, roundRect}
-use Rattle.emath.specs.Refusals.{edgesFault, frameFault}
+use Rattle.emath.specs.Refusals.{edgesFault}
 use Rattle.emath.specs.Steps.{val, Edge}
 use Rattle.emath.proofs.Values.{val-add, val-sub, eq-inf}
 use Rattle.emath.proofs.Rounding.{val-whole}
 use Rattle.emath.proofs.Sums.{edge-small}
-use Rattle.emath.proofs.Refusals.{frame-none}
 use Rattle.grid.specs.Grids.{prevRowHeight, nextWidth, nextCell, alignSizeWithinRect}
 use Rattle.emath.specs.declared.Rect.{Rect}
 use Rattle.emath.specs.declared.Vec2.{Vec2}
@@ -23,11 +22,11 @@ use Rattle.emath.specs.declared.Align.the-variants.{Min}
 use Rattle.grid.specs.declared.GridLayout.{GridLayout}
 
 module _ (k : ℕ) (l : k ≤ 7) where
-  pub next-cell-whole : (g : GridLayout) (c : Rect) (s : Vec2) → frameFault (nextCell k g c s) ≡ 0 → WholeRect k (nextCell k g c s)
+  pub next-cell-whole : (g : GridLayout) (c : Rect) (s : Vec2) → edgesFault (nextCell k g c s) ≡ 0 → WholeRect k (nextCell k g c s)
   unfolding nextCell
   next-cell-whole g c s h =
       let r = fromMinSize (record { x = c .left; y = c .top }) (record { x = maxF (s .x) (nextWidth g); y = maxF (s .y) (prevRowHeight g (g .row)) }) in
-      rounded-whole k l r (frame-none (roundRect k r) h)
+      rounded-whole k l r h
 
   pub align-size-within-rect-whole : (s : Vec2) (f : Rect) → edgesFault (alignSizeWithinRect k s f) ≡ 0 → WholeRect k (alignSizeWithinRect k s f)
   unfolding alignSizeWithinRect
@@ -66,5 +65,5 @@ module _ (k : ℕ) (l : k ≤ 7) where
         ∙ p ∙ sym (w .is)
 
   -- ---- so for every accepted cell
-  pub cell-width : (g : GridLayout) (c : Rect) (s : Vec2) → frameFault (nextCell k g c s) ≡ 0 → Edge k (s .x) → width (alignSizeWithinRect k s (nextCell k g c s)) ≡ s .x
+  pub cell-width : (g : GridLayout) (c : Rect) (s : Vec2) → edgesFault (nextCell k g c s) ≡ 0 → Edge k (s .x) → width (alignSizeWithinRect k s (nextCell k g c s)) ≡ s .x
   cell-width g c s h w = widget-width s (nextCell k g c s) (next-cell-whole g c s h .left) w

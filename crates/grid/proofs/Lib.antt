@@ -3,6 +3,7 @@ mod Turns
 mod Counts
 pub mod Remembered
 mod Answers
+pub mod UprightCells
 pub mod Cells
 pub mod WidgetHeights
 pub mod Advances

@@ -5,14 +5,13 @@ use mathlib.Core.Bool.{Bool, true, false, not, cond}
 use mathlib.Core.List.{List, [], _∷_}
 use Prim.Native.Nat.{ℕ, zero, suc, _+_, _≤_, _<_}
 use native.Mathlib.Omega.{arith}
-use borrow.Author.Tests.{ne-eqb}
 use lib.Dec.{T, ltb, ltb→lt, nltb→le}
 use lib.ListN.{length, take, getD, length-take}
 use lib.Ieee.{Float, nan, lt, le, eq, neg, ofBits}
 use Rattle.emath.specs.Rectangles.{zeroF, maxF, width, height}
 use Rattle.emath.specs.Domain.{finite, within}
 use Rattle.emath.specs.Refusals.{when, lesser, least, lengthFault, extentFault, pairFault, sizeFault, edgesFault}
-use Rattle.emath.proofs.Refusals.{lesser-none}
+use Rattle.emath.proofs.Refusals.{lesser-none, lesser-zero, zero-lesser}
 use Rattle.emath.proofs.Tests.{is-lt, not-lt}
 use Rattle.grid.specs.Entries.{entry, raised, entriesFault}
 use Rattle.grid.specs.Memories.{raisedCount, setMinColWidth, setMinRowHeight, colWidth, rowHeight, widths, heights}
@@ -23,16 +22,6 @@ use Rattle.grid.proofs.Remembered.{entry-there, after, length-after, ra
 use Rattle.emath.specs.declared.Rect.{Rect}
 use Rattle.grid.specs.declared.Memory.{Memory}
 use Rattle.grid.specs.declared.GridLayout.{GridLayout}
-
--- ---- the lesser of a number and none
-pub zero-lesser : (n : ℕ) → lesser 0 n ≡ n
-unfolding lesser
-zero-lesser n = refl
-
-pub lesser-zero : (n : ℕ) → lesser n 0 ≡ n
-unfolding lesser
-lesser-zero zero = refl
-lesser-zero (suc n) = rw (ne-eqb (suc n) 0 (λ (e : suc n ≡ 0). omega arith))
 
 -- ---- lists whose entries have no fault, but for one
 each-none : (vs : List Float) (j : ℕ) → entriesFault vs ≡ 0 → j < length vs → extentFault (getD vs j nan) ≡ 0

@@ -9,7 +9,7 @@ use Rattle.emath.specs.Rectangles.{zeroF}
 use Rattle.emath.specs.Numbers as number
 use Rattle.emath.specs.Refusals.{when, least, orElse, lengthFault, extentFault, pairFault, sizeFault, rectFault, outside}
 use Rattle.region.specs.Refusals.{rectAnswer, cursorFault, regionFault}
-use Rattle.region.specs.Operations.{placedNumber, framedNumber}
+use Rattle.region.specs.Operations.{placedNumber}
 use Rattle.grid.specs.Memories.{setMinColWidth, setMinRowHeight, colWidth, rowHeight, fullWidth}
 use Rattle.grid.specs.Grids.{knownMemory, newGrid, emptyGrid, prevColWidth, prevRowHeight, availableRect, nextCell, alignSizeWithinRect, advance, endRow, save}
 use Rattle.grid.specs.Refusals.{memoryFault, maxCellFault, gridFault, directionFault, movedFault, memoryAnswer, gridAnswer, movedAnswer, savedAnswer, lengthAnswer, entryAnswer}
@@ -66,7 +66,7 @@ checkedPrevColWidth g col = lengthAnswer (gridFault g) (prevColWidth g col)
 unfoldable pub checkedPrevRowHeight : GridLayout → ℕ → LengthAnswer
 checkedPrevRowHeight g row = lengthAnswer (gridFault g) (prevRowHeight g row)
 
--- RULES 8.16: rectangles; a cell may not be inside out (RULES 8.14)
+-- RULES 8.16: rectangles
 unfoldable pub availableRectNumber : GridLayout → Direction → Region → ℕ
 availableRectNumber g d r = placedNumber (least (gridFault g ∷ regionFault d r ∷ directionFault d ∷ [])) (availableRect g r)
 
@@ -74,7 +74,7 @@ unfoldable pub checkedAvailableRect : GridLayout → Direction → Region → Re
 checkedAvailableRect g d r = rectAnswer (availableRectNumber g d r) (availableRect g r)
 
 unfoldable pub nextCellNumber : ℕ → GridLayout → Direction → Rect → Vec2 → ℕ
-nextCellNumber k g d c s = framedNumber (least (gridFault g ∷ cursorFault d c ∷ sizeFault s ∷ directionFault d ∷ [])) (nextCell k g c s)
+nextCellNumber k g d c s = placedNumber (least (gridFault g ∷ cursorFault d c ∷ sizeFault s ∷ directionFault d ∷ [])) (nextCell k g c s)
 
 unfoldable pub checkedNextCell : ℕ → GridLayout → Direction → Rect → Vec2 → RectAnswer
 checkedNextCell k g d c s = rectAnswer (nextCellNumber k g d c s) (nextCell k g c s)

@@ -39,7 +39,6 @@ use region::Direction;
 use region::RectAnswer;
 use region::Region;
 use region::faults::cursor_fault;
-use region::faults::framed_rect;
 use region::faults::placed_rect;
 use region::faults::region_fault;
 ghost use mathlib.Core.Path.{_≡_};
@@ -195,7 +194,7 @@ impl GridLayout {
         let frame = grids::next_cell(self, cursor, child_size);
         let sizes = lesser_number(size_fault(child_size), direction_fault(main_dir));
         let rest = lesser_number(cursor_fault(main_dir, cursor), sizes);
-        framed_rect(lesser_number(grid_fault(self), rest), frame)
+        placed_rect(lesser_number(grid_fault(self), rest), frame)
     }
 
     pub fn align_size_within_rect(self, size: Vec2, frame: Rect) -> RectAnswer

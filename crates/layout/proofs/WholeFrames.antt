@@ -3,9 +3,8 @@
 use mathlib.Core.Path.{_≡_}
 use mathlib.Core.Bool.{cond}
 use Prim.Native.Nat.{ℕ, _≤_}
-use Rattle.emath.specs.Rectangles.{roundRect, alignWithin, width, height}
-use Rattle.emath.specs.Refusals.{edgesFault, frameFault}
-use Rattle.emath.proofs.Refusals.{frame-none}
+use Rattle.emath.specs.Rectangles.{alignWithin, width, height}
+use Rattle.emath.specs.Refusals.{edgesFault}
 use Rattle.layout.specs.Layouts.{align2, horizontalJustify, verticalJustify}
 use Rattle.layout.specs.Rules.{alignSizeWithinRect, availableRectBeforeWrap, newRegion, frameRect, nextFrameIgnoreWrap, wraps, nextFrame, raised, justifyAndAlign, nextWidgetSpaceIgnoreWrapJustify}
 use Rattle.region.specs.Steps.{WholeRect}
@@ -16,12 +15,12 @@ use Rattle.layout.specs.declared.Layout.{Layout}
 use Rattle.region.specs.declared.Region.{Region}
 
 module _ (k : ℕ) (l : k ≤ 7) where
-  pub next-frame-ignore-wrap-whole : (L : Layout) (g : Region) (s : Vec2) → frameFault (nextFrameIgnoreWrap k L g s) ≡ 0 → WholeRect k (nextFrameIgnoreWrap k L g s)
+  pub next-frame-ignore-wrap-whole : (L : Layout) (g : Region) (s : Vec2) → edgesFault (nextFrameIgnoreWrap k L g s) ≡ 0 → WholeRect k (nextFrameIgnoreWrap k L g s)
   unfolding nextFrameIgnoreWrap
   next-frame-ignore-wrap-whole L g s h =
-      rounded-whole k l (frameRect L (g .cursor) (availableRectBeforeWrap (L .«main_dir») g) s) (frame-none (roundRect k (frameRect L (g .cursor) (availableRectBeforeWrap (L .«main_dir») g) s)) h)
+      rounded-whole k l (frameRect L (g .cursor) (availableRectBeforeWrap (L .«main_dir») g) s) h
 
-  pub next-frame-whole : (L : Layout) (g : Region) (s sp : Vec2) → frameFault (nextFrame k L g s sp) ≡ 0 → WholeRect k (nextFrame k L g s sp)
+  pub next-frame-whole : (L : Layout) (g : Region) (s sp : Vec2) → edgesFault (nextFrame k L g s sp) ≡ 0 → WholeRect k (nextFrame k L g s sp)
   unfolding nextFrame
   next-frame-whole L g s sp h = next-frame-ignore-wrap-whole L (cond (wraps L g s) (newRegion (L .«main_dir») g s sp) g) s h
 

@@ -5,7 +5,7 @@ use mathlib.Core.List.{[], _∷_}
 use lib.Ieee.{Float}
 use Rattle.emath.specs.Refusals.{least, orElse, lengthFault, pairFault, sizeFault, rectFault, outside}
 use Rattle.layout.specs.Rules.{alignSizeWithinRect, initialCursor, availableFromCursorMaxRect, availableRectBeforeWrap, availableSize, nextFrameIgnoreWrap, nextFrame, justifyAndAlign, nextWidgetSpaceIgnoreWrapJustify, nextWidgetPosition, regionFromMaxRect, advanceCursor, advanceAfterRects, endRow, setRowHeight}
-use Rattle.region.specs.Operations.{placedNumber, framedNumber, changedRegion}
+use Rattle.region.specs.Operations.{placedNumber, changedRegion}
 use Rattle.region.specs.Refusals.{cursorFault, regionFault, zeroRegion, rectAnswer, posAnswer, sizeAnswer, cursorAnswer}
 use Rattle.emath.specs.declared.Rect.{Rect}
 use Rattle.emath.specs.declared.Vec2.{Vec2}
@@ -55,15 +55,15 @@ availableFromCursorMaxRectNumber l c m = placedNumber (least (cursorFault (l .«
 unfoldable pub checkedAvailableFromCursorMaxRect : Layout → Rect → Rect → RectAnswer
 checkedAvailableFromCursorMaxRect l c m = rectAnswer (availableFromCursorMaxRectNumber l c m) (availableFromCursorMaxRect (l .«main_dir») c m)
 
--- ---- RULES 8.15: frames, which may not be inside out (RULES 8.14)
+-- ---- RULES 8.15: frames
 unfoldable pub nextFrameNumber : ℕ → Layout → Region → Vec2 → Vec2 → ℕ
-nextFrameNumber k l g s sp = framedNumber (least (regionFault (l .«main_dir») g ∷ sizeFault s ∷ pairFault (sp .x) (sp .y) ∷ [])) (nextFrame k l g s sp)
+nextFrameNumber k l g s sp = placedNumber (least (regionFault (l .«main_dir») g ∷ sizeFault s ∷ pairFault (sp .x) (sp .y) ∷ [])) (nextFrame k l g s sp)
 
 unfoldable pub checkedNextFrame : ℕ → Layout → Region → Vec2 → Vec2 → RectAnswer
 checkedNextFrame k l g s sp = rectAnswer (nextFrameNumber k l g s sp) (nextFrame k l g s sp)
 
 unfoldable pub nextFrameIgnoreWrapNumber : ℕ → Layout → Region → Vec2 → ℕ
-nextFrameIgnoreWrapNumber k l g s = framedNumber (least (regionFault (l .«main_dir») g ∷ sizeFault s ∷ [])) (nextFrameIgnoreWrap k l g s)
+nextFrameIgnoreWrapNumber k l g s = placedNumber (least (regionFault (l .«main_dir») g ∷ sizeFault s ∷ [])) (nextFrameIgnoreWrap k l g s)
 
 unfoldable pub checkedNextFrameIgnoreWrap : ℕ → Layout → Region → Vec2 → RectAnswer
 checkedNextFrameIgnoreWrap k l g s = rectAnswer (nextFrameIgnoreWrapNumber k l g s) (nextFrameIgnoreWrap k l g s)

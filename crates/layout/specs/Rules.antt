@@ -5,7 +5,6 @@ use mathlib.Core.Bool.{Bool, cond, not, _&&_, _||_}
 use lib.Ieee.{Float, nan, binary32, neg, add, sub, lt}
 use Rattle.emath.specs.Rectangles.{zeroF, oneF, minF, maxF, atLeast, width, height, sizeOf, center, midpoint, fromCenterSize, translate, intersect, union, intersects, shrink, alignWithin, withX, withY, roundRect}
 use Rattle.region.specs.Directions.{isHorizontal}
-use Rattle.region.specs.Directions.{isHorizontal}
 use Rattle.region.specs.Regions.{infinity, zeroVec, setLeft, setTop, setRight, setBottom, withCursor, expandToIncludeX, expandToIncludeY}
 use Rattle.layout.specs.Layouts.{isCenter, horizontalAlign, verticalAlign, align2, horizontalJustify, verticalJustify}
 use Rattle.emath.specs.declared.Rect.{Rect}

@@ -22,7 +22,6 @@ use region::SizeAnswer;
 use region::faults::changed_region;
 use region::faults::cursor_answer;
 use region::faults::cursor_fault;
-use region::faults::framed_rect;
 use region::faults::placed_rect;
 use region::faults::pos_answer;
 use region::faults::rect_answer;
@@ -100,7 +99,7 @@ impl Layout {
         let d = self.main_dir;
         let frame = frames::next_frame(self, region, child_size, spacing);
         let sizes = lesser_number(size_fault(child_size), pair_fault(spacing.x, spacing.y));
-        framed_rect(lesser_number(region_fault(d, region), sizes), frame)
+        placed_rect(lesser_number(region_fault(d, region), sizes), frame)
     }
 
     pub fn next_frame_ignore_wrap(self, region: Region, child_size: Vec2) -> RectAnswer
@@ -109,7 +108,7 @@ impl Layout {
     {
         let d = self.main_dir;
         let frame = frames::next_frame_ignore_wrap(self, region, child_size);
-        framed_rect(
+        placed_rect(
             lesser_number(region_fault(d, region), size_fault(child_size)),
             frame,
         )

@@ -4,7 +4,7 @@ use Prim.Native.Nat.{ℕ, _≤_}
 use mathlib.Core.Path.{_≡_, ap, sym, _∙_, subst}
 use mathlib.Core.Bool.{true}
 use native.Mathlib.Omega.{arith}
-use Rattle.emath.specs.Refusals.{when, lesser, least, lengthFault, frameFault, edgesFault}
+use Rattle.emath.specs.Refusals.{when, lesser, least, lengthFault, edgesFault}
 use Rattle.emath.proofs.Refusals.{lesser-none}
 use Rattle.emath.specs.declared.Rect.{Rect}
 use Rattle.emath.specs.declared.Vec2.{Vec2}
@@ -45,7 +45,7 @@ module _ (k : ℕ) (l : k ≤ 6) (sp : Vec2) (p : Placer) (i : OnSteps k p) wher
     pub frame-whole : WholeRect k (cellOf k sp p s .frame)
     frame-whole =
         let e = frame-is k sp p s (i .grid) in
-        subst (WholeRect k) (sym e) (next-cell-whole k (omega arith) (p .grid) (p .region .cursor) s (ap (λ (r : Rect). frameFault r) (sym e) ∙ a .placed .frame))
+        subst (WholeRect k) (sym e) (next-cell-whole k (omega arith) (p .grid) (p .region .cursor) s (ap (λ (r : Rect). edgesFault r) (sym e) ∙ a .placed .frame))
 
     pub widget-whole : WholeRect k (cellOf k sp p s .widget)
     widget-whole =

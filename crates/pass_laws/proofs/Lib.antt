@@ -16,3 +16,5 @@ pub mod FurtherPasses
 pub mod WholeTops
 pub mod WholeEdges
 pub mod TextTicks
+-- No rectangle is inside out, and each W is its calls.
+pub mod UprightPasses

@@ -1,22 +1,13 @@
 -- What an accepted or refused call of a placer says. Assumes nothing.
-use mathlib.Core.Path.{_≡_, refl}
-use mathlib.Core.Bool.{Bool, true, false}
+use mathlib.Core.Path.{_≡_}
+use mathlib.Core.Bool.{true}
 use Prim.Native.Nat.{ℕ, suc}
-use native.Mathlib.Omega.{arith}
-use lib.Dec.{T, eqb, eqb→eq}
 use Rattle.emath.specs.Refusals.{outside, least}
-use Rattle.emath.proofs.Refusals.{or-none, outside-none, lesser-none}
+use Rattle.emath.proofs.Refusals.{some, or-none, outside-none, lesser-none}
 use Rattle.region.specs.Refusals.{regionFault}
 use Rattle.grid.specs.Refusals.{gridFault, directionFault}
 use Rattle.placer.specs.Refusals.{gridPart, placerFault, placerAnswer, changedPlacer}
 use Rattle.placer.specs.declared.Placer.{Placer}
-
-some : (n : ℕ) → eqb (suc n) 0 ≡ false
-some n = go (eqb (suc n) 0) (eqb→eq (suc n) 0)
-  where
-    go : (b : Bool) → (T b → suc n ≡ 0) → b ≡ false
-    go true f = absurd (let e : suc n ≡ 0 = f tt in omega arith)
-    go false f = refl
 
 -- ---- a refused call gives the placer back as it was given
 pub placer-refused : (n : ℕ) (given new : Placer) → placerAnswer (suc n) given new .placer ≡ given

@@ -2,6 +2,9 @@
 pub mod Answers
 mod Parts
 pub mod Unfaulted
+pub mod UprightSpaces
+pub mod FrameCases
+pub mod PlacersF32
 pub mod WholePlacers
 pub mod WholeCalls
 pub mod WholeGrids

@@ -8,10 +8,10 @@ use native.Mathlib.Omega.{arith}
 use lib.Dec.{T, leb, nleb→lt}
 use lib.ListN.{length}
 use Rattle.emath.specs.Refusals.{when, lesser, least, orElse, outside}
-use Rattle.emath.proofs.Refusals.{lesser-none}
+use Rattle.emath.proofs.Refusals.{lesser-none, lesser-zero, zero-lesser}
 use Rattle.region.specs.Refusals.{regionFault}
 use Rattle.grid.specs.Refusals.{gridFault, directionFault}
-use Rattle.grid.proofs.Unfaulted.{lesser-zero, zero-lesser, advance-fault, end-row-fault}
+use Rattle.grid.proofs.Unfaulted.{advance-fault, end-row-fault}
 use Rattle.placer.specs.Rules.{withRegion, setCursor, expandToIncludeRect, movedPast, advanceAfterRects, endRow}
 use Rattle.placer.specs.Refusals.{gridPart, placerFault, advanceFault, placerAnswer, changedPlacer}
 use Rattle.placer.specs.Implementation.Lent.{raisedPart, pastPart}

@@ -6,7 +6,7 @@ use lib.Ieee.{Float}
 use Rattle.emath.specs.Numbers as number
 use Rattle.emath.specs.Refusals.{when, least, orElse, lengthFault, extentFault, pairFault, sizeFault, rectFault, outside}
 use Rattle.region.specs.Refusals.{rectAnswer, cursorFault, posAnswer, sizeAnswer}
-use Rattle.region.specs.Operations.{placedNumber, framedNumber}
+use Rattle.region.specs.Operations.{placedNumber}
 use Rattle.grid.specs.Refusals.{gridFault, directionFault, savedAnswer}
 use Rattle.placer.specs.Rules.{newPlacer, setGrid, saveGrid, forceSetMinRect, setCursor, alignSizeWithinRect, availableRectBeforeWrap, availableSize, nextSpace, nextWidgetPosition, justifyAndAlign, advanceCursor, expandToIncludeRect, expandToIncludeX, expandToIncludeY, advanceAfterRects, endRow, setRowHeight, nextWidgetSpaceIgnoreWrapJustify, setMaxWidth, setMaxHeight, setMinWidth, setMinHeight}
 use Rattle.placer.specs.Refusals.{placerFault, advanceFault, endRowFault, zeroPlacer, changedPlacer}
@@ -39,7 +39,7 @@ checkedForceSetMinRect p m = changedPlacer (least (placerFault p ∷ rectFault m
 unfoldable pub checkedSetCursor : Placer → Rect → PlacerAnswer
 checkedSetCursor p c = changedPlacer (least (placerFault p ∷ cursorFault (p .layout .«main_dir») c ∷ [])) p (setCursor p c)
 
--- ---- RULES 8.17: queries. Of each first its number, then what it answers; a frame or cell may not be inside out (RULES 8.14).
+-- ---- RULES 8.17: queries. Of each first its number, then what it answers.
 unfoldable pub alignSizeWithinRectNumber : ℕ → Placer → Vec2 → Rect → ℕ
 alignSizeWithinRectNumber k p s o = placedNumber (least (placerFault p ∷ sizeFault s ∷ rectFault o ∷ [])) (alignSizeWithinRect k p s o)
 
@@ -59,7 +59,7 @@ unfoldable pub checkedAvailableSize : Placer → SizeAnswer
 checkedAvailableSize p = sizeAnswer (availableSizeNumber p) (availableSize p)
 
 unfoldable pub nextSpaceNumber : ℕ → Placer → Vec2 → Vec2 → ℕ
-nextSpaceNumber k p s sp = framedNumber (least (placerFault p ∷ sizeFault s ∷ pairFault (sp .x) (sp .y) ∷ [])) (nextSpace k p s sp)
+nextSpaceNumber k p s sp = placedNumber (least (placerFault p ∷ sizeFault s ∷ pairFault (sp .x) (sp .y) ∷ [])) (nextSpace k p s sp)
 
 unfoldable pub checkedNextSpace : ℕ → Placer → Vec2 → Vec2 → RectAnswer
 checkedNextSpace k p s sp = rectAnswer (nextSpaceNumber k p s sp) (nextSpace k p s sp)

@@ -30,7 +30,6 @@ use region::PosAnswer;
 use region::RectAnswer;
 use region::SizeAnswer;
 use region::faults::cursor_fault;
-use region::faults::framed_rect;
 use region::faults::placed_rect;
 use region::faults::pos_answer;
 use region::faults::size_answer;
@@ -123,7 +122,7 @@ impl Placer {
             size_fault(child_size),
             pair_fault(item_spacing.x, item_spacing.y),
         );
-        framed_rect(lesser_number(placer_fault(self), rest), frame)
+        placed_rect(lesser_number(placer_fault(self), rest), frame)
     }
 
     pub fn next_widget_position(self) -> PosAnswer

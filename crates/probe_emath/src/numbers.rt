@@ -129,11 +129,6 @@ pub extern "C" fn emath_faults_rect_fault(r: &[f32; 4]) -> u8 {
 }
 
 #[no_mangle]
-pub extern "C" fn emath_faults_frame_fault(r: &[f32; 4]) -> u8 {
-    emath::faults::frame_fault(rect_of(r))
-}
-
-#[no_mangle]
 pub extern "C" fn emath_faults_outside_domain(n: u8) -> u8 {
     emath::faults::outside_domain(n)
 }

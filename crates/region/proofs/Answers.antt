@@ -1,27 +1,17 @@
 -- What an answer says: its number is the one it was made of, its value the given one, or all zero; and what an accepted call's parts are.
 -- Assumes nothing.
 use mathlib.Core.Path.{_≡_, refl, ap, sym, _∙_}
-use mathlib.Core.Bool.{Bool, true, false}
 use mathlib.Core.List.{[], _∷_}
 use Prim.Native.Nat.{ℕ, zero, suc}
-use native.Mathlib.Omega.{arith}
-use lib.Dec.{T, eqb, eqb→eq}
-use Rattle.emath.specs.Refusals.{outside, edgesFault, rectFault, frameFault, least}
-use Rattle.emath.proofs.Refusals.{or-none, outside-none, lesser-none}
+use Rattle.emath.specs.Refusals.{outside, edgesFault, rectFault, least}
+use Rattle.emath.proofs.Refusals.{some, or-none, outside-none, lesser-none}
 use Rattle.region.specs.Refusals.{cursorFault, regionFault, rectAnswer, posAnswer, sizeAnswer, regionAnswer, cursorAnswer, rectNumber, rectValue, posNumber, posValue, sizeNumber, sizeValue, rectOrZero, posOrZero, sizeOrZero}
-use Rattle.region.specs.Operations.{placedNumber, framedNumber, changedRegion}
+use Rattle.region.specs.Operations.{placedNumber, changedRegion}
 use Rattle.emath.specs.declared.Rect.{Rect}
 use Rattle.emath.specs.declared.Vec2.{Vec2}
 use Rattle.emath.specs.declared.Pos2.{Pos2}
 use Rattle.region.specs.declared.Direction.{Direction}
 use Rattle.region.specs.declared.Region.{Region}
-
-pub some : (n : ℕ) → eqb (suc n) 0 ≡ false
-some n = go (eqb (suc n) 0) (eqb→eq (suc n) 0)
-  where
-    go : (b : Bool) → (T b → suc n ≡ 0) → b ≡ false
-    go true f = absurd (let e : suc n ≡ 0 = f tt in omega arith)
-    go false f = refl
 
 -- ---- the number, and the value that goes with it
 pub rect-number : (n : ℕ) (r : Rect) → rectNumber (rectAnswer n r) ≡ n
@@ -76,10 +66,6 @@ cursor-refused n given new = rw (some n)
 pub placed-accepted : (n : ℕ) (r : Rect) → placedNumber n r ≡ 0 → (n ≡ 0) × (edgesFault r ≡ 0)
 unfolding placedNumber
 placed-accepted n r h = let p = or-none n (outside (edgesFault r)) h in (p .0, outside-none (edgesFault r) (p .1))
-
-pub framed-accepted : (n : ℕ) (r : Rect) → framedNumber n r ≡ 0 → (n ≡ 0) × (frameFault r ≡ 0)
-unfolding framedNumber
-framed-accepted n r h = or-none n (frameFault r) h
 
 pub changed-accepted : (d : Direction) (n : ℕ) (given new : Region) → changedRegion d n given new .number ≡ 0 → (n ≡ 0) × (regionFault d new ≡ 0) × (changedRegion d n given new .region ≡ new)
 unfolding changedRegion regionAnswer

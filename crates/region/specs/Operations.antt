@@ -2,7 +2,7 @@
 use Prim.Native.Nat.{ℕ}
 use mathlib.Core.List.{[], _∷_}
 use lib.Ieee.{Float}
-use Rattle.emath.specs.Refusals.{least, orElse, lengthFault, edgesFault, rectFault, outside, frameFault}
+use Rattle.emath.specs.Refusals.{least, orElse, lengthFault, edgesFault, rectFault, outside}
 use Rattle.region.specs.Regions.{expandToIncludeRect, expandToIncludeX, expandToIncludeY}
 use Rattle.region.specs.Refusals.{regionFault, regionAnswer}
 use Rattle.emath.specs.declared.Rect.{Rect}
@@ -14,10 +14,6 @@ use Rattle.region.specs.declared.RegionAnswer.{RegionAnswer}
 -- RULES 8.13: of a rectangle, 9 for a fault of its edges
 unfoldable pub placedNumber : ℕ → Rect → ℕ
 placedNumber before r = orElse before (outside (edgesFault r))
-
--- RULES 8.14: of a frame, 10 too
-unfoldable pub framedNumber : ℕ → Rect → ℕ
-framedNumber before r = orElse before (frameFault r)
 
 -- RULES 8.13: a new region, or the given one where a number applies
 unfoldable pub changedRegion : Direction → ℕ → Region → Region → RegionAnswer

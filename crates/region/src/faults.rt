@@ -10,7 +10,6 @@ use emath::Pos2;
 use emath::Rect;
 use emath::Vec2;
 use emath::faults::edges_fault;
-use emath::faults::frame_fault;
 use emath::faults::lesser_number;
 use emath::faults::or_else;
 use emath::faults::outside_domain;
@@ -18,7 +17,7 @@ use emath::faults::rect_fault;
 use emath::num::infinity;
 ghost use mathlib.Core.Path.{_≡_};
 ghost use Rattle.region.specs.Refusals.{zeroIfOpen, closed, cursorFault, regionFault, rectAnswer, posAnswer, sizeAnswer, regionAnswer, cursorAnswer, zeroRegion};
-ghost use Rattle.region.specs.Operations.{placedNumber, framedNumber, changedRegion};
+ghost use Rattle.region.specs.Operations.{placedNumber, changedRegion};
 
 pub fn zero_if_open(outward: f32, edge: f32) -> f32
     ensures { λ r. ⌜ r ≡ zeroIfOpen outward edge ⌝ }
@@ -128,17 +127,11 @@ pub fn cursor_answer(n: u8, given: Rect, new: Rect) -> CursorAnswer
     }
 }
 
-// A rectangle that is no frame: `before` is the arguments' number.
+// `before` is the arguments' number.
 pub fn placed_rect(before: u8, r: Rect) -> RectAnswer
     ensures { λ a. ⌜ a ≡ rectAnswer (placedNumber before r) r ⌝ }
 {
     rect_answer(or_else(before, outside_domain(edges_fault(r))), r)
-}
-
-pub fn framed_rect(before: u8, r: Rect) -> RectAnswer
-    ensures { λ a. ⌜ a ≡ rectAnswer (framedNumber before r) r ⌝ }
-{
-    rect_answer(or_else(before, frame_fault(r)), r)
 }
 
 pub fn changed_region(main_dir: Direction, before: u8, given: Region, new: Region) -> RegionAnswer

@@ -3,7 +3,7 @@
 use Prim.Native.Nat.{ℕ, _≤_}
 use mathlib.Core.Path.{_≡_, refl}
 use mathlib.Core.Bool.{Bool, true, false}
-use Rattle.emath.specs.Refusals.{frameFault, edgesFault}
+use Rattle.emath.specs.Refusals.{edgesFault}
 use Rattle.emath.specs.declared.Rect.{Rect}
 use Rattle.emath.specs.declared.Vec2.{Vec2}
 use Rattle.region.specs.Steps.{WholeRect}
@@ -19,7 +19,7 @@ pub record WholeCell (k : ℕ) (c : Cell) : Type 0 where
   pub widget : WholeRect k (c .widget)
 
 module _ (k : ℕ) (l : k ≤ 7) where
-  frame-by : (b : Bool) (p : Placer) (s sp : Vec2) → p .«has_grid» ≡ b → frameFault (nextSpace k p s sp) ≡ 0 → WholeRect k (nextSpace k p s sp)
+  frame-by : (b : Bool) (p : Placer) (s sp : Vec2) → p .«has_grid» ≡ b → edgesFault (nextSpace k p s sp) ≡ 0 → WholeRect k (nextSpace k p s sp)
   unfolding nextSpace
   frame-by true p s sp g h = rw g (next-cell-whole k l (p .grid) (p .region .cursor) s (rw g at h))
   frame-by false p s sp g h = rw g (next-frame-whole k l (p .layout) (p .region) s sp (rw g at h))

@@ -6,7 +6,7 @@ use mathlib.Core.List.{List, _∷_, _++_}
 use native.Mathlib.Omega.{arith}
 use lib.Dec.{eqb}
 use borrow.Author.Tests.{eqb-true, eq-eqb, ne-eqb}
-use Rattle.emath.specs.Refusals.{least, sizeFault, pairFault, edgesFault, frameFault, outside}
+use Rattle.emath.specs.Refusals.{least, sizeFault, pairFault, edgesFault}
 use Rattle.emath.proofs.Refusals.{lesser-none, or-none, outside-none}
 use Rattle.emath.specs.declared.Vec2.{Vec2}
 use Rattle.placer.specs.Refusals.{placerFault, advanceFault}
@@ -42,7 +42,7 @@ pub record Placed (sp : Vec2) (p : Placer) (s : Vec2) (c : Cell) : Type 0 where
   pub before : placerFault p ≡ 0
   pub size : sizeFault s ≡ 0
   pub place : advanceFault p ≡ 0
-  pub frame : frameFault (c .frame) ≡ 0
+  pub frame : edgesFault (c .frame) ≡ 0
   pub widget : edgesFault (c .widget) ≡ 0
   pub after : placerFault (pastCell sp p c) ≡ 0
   pub placer : widgetStep sp p s c .placer ≡ pastCell sp p c
@@ -54,14 +54,14 @@ widget-placed sp p s c h =
     let a = lesser-none (placerFault p) _ (o .0) in
     let b = lesser-none (sizeFault s) _ (a .1) in
     let d = lesser-none (pairFault (sp .x) (sp .y)) (advanceFault p) (b .1) in
-    let f = lesser-none (frameFault (c .frame)) _ (o .1) in
-    let w = lesser-none (outside (edgesFault (c .widget))) (outside (placerFault (pastCell sp p c))) (f .1) in
+    let f = lesser-none (edgesFault (c .frame)) _ (outside-none _ (o .1)) in
+    let w = lesser-none (edgesFault (c .widget)) (placerFault (pastCell sp p c)) (f .1) in
     record {
       before = a .0;
       size = b .0;
       place = d .1;
       frame = f .0;
-      widget = outside-none (edgesFault (c .widget)) (w .0);
-      after = outside-none (placerFault (pastCell sp p c)) (w .1);
+      widget = w .0;
+      after = w .1;
       placer = rw h;
     }

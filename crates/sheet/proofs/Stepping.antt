@@ -1,18 +1,19 @@
 -- A record on a placer without a fault: the number that the code works out for a W is the rule's, and an accepted record leaves a placer
 -- without a fault. Assumes nothing.
 use mathlib.Core.Path.{_≡_, refl, sym, ap, _∙_}
-use mathlib.Core.Bool.{Bool, true, false}
+use mathlib.Core.Bool.{Bool, true, false, cond, _&&_, true≢false}
 use Prim.Native.Nat.{ℕ}
 use native.Mathlib.Omega.{arith}
 use lib.Dec.{eqb}
 use lib.ListN.{length}
 use borrow.Author.Tests.{eq-eqb, ne-eqb, eqb-true}
 use Rattle.emath.specs.Steps.{tick}
-use Rattle.emath.specs.Refusals.{least, orElse, sizeFault, pairFault}
-use Rattle.emath.proofs.Refusals.{lesser-none, or-none}
+use Rattle.emath.specs.Domain.{within, edgesOf}
+use Rattle.emath.specs.Refusals.{lesser, least, orElse, sizeFault, pairFault, edgesFault, outside}
+use Rattle.emath.proofs.Tests.{both}
+use Rattle.emath.proofs.Refusals.{lesser-none, zero-lesser, or-none, edges-fit, no-fault}
 use Rattle.emath.specs.declared.Rect.{Rect}
 use Rattle.emath.specs.declared.Vec2.{Vec2}
-use Rattle.grid.proofs.Unfaulted.{zero-lesser}
 use Rattle.placer.specs.Rules.{nextSpace, justifyAndAlign, advanceAfterRects}
 use Rattle.placer.specs.Refusals.{placerFault, advanceFault, changedPlacer}
 use Rattle.placer.specs.Operations.{checkedNew, checkedSetGrid, checkedAdvanceCursor, checkedEndRow, checkedSetRowHeight, checkedSetMaxWidth, checkedSetMaxHeight, checkedSetMinWidth, checkedSetMinHeight}
@@ -31,6 +32,22 @@ use Rattle.records.specs.declared.Record.the-variants as record-of
 use Rattle.sheet.specs.Pass.{cellOf, widgetFault, widgetStep, gridOf, gridSet}
 use Rattle.sheet.proofs.Runs.{widget-placed}
 use Rattle.sheet.specs.Implementation.Calls.{givenNumber, answeredNumber, placement, stepResult, recordResult}
+
+-- ---- 9: what is within the limit has no fault, and what is not has one
+pub answered-is : (f w : Rect) (past : ℕ) (b : Bool) → edgesOf within f && (edgesOf within w && eqb past 0) ≡ b → cond b 0 9 ≡ answeredNumber f w past
+unfolding answeredNumber least
+answered-is f w past true h =
+    let a = both (edgesOf within f) (edgesOf within w && eqb past 0) h in
+    let b = both (edgesOf within w) (eqb past 0) (a .1) in
+    rw (← no-fault f (a .0), ← no-fault w (b .0), eqb-true past 0 (b .1)) (unfold lesser outside in refl)
+answered-is f w past false h = go (eqb (lesser (edgesFault f) (lesser (edgesFault w) past)) 0) refl
+  where
+    go : (t : Bool) → eqb (lesser (edgesFault f) (lesser (edgesFault w) past)) 0 ≡ t → 9 ≡ outside (lesser (edgesFault f) (lesser (edgesFault w) past))
+    go true e =
+        let a = lesser-none (edgesFault f) (lesser (edgesFault w) past) (eqb-true (lesser (edgesFault f) (lesser (edgesFault w) past)) 0 e) in
+        let b = lesser-none (edgesFault w) past (a .1) in
+        absurd (true≢false (rw (edges-fit f (a .0), edges-fit w (b .0), eq-eqb past 0 (b .1)) at h))
+    go false e = unfold outside in rw e
 
 -- ---- a W
 module _ (p : Placer) (sp s : Vec2) (none : placerFault p ≡ 0) (cols : length (p .grid .«curr_state» .«col_widths») ≡ 32) (rows : length (p .grid .«curr_state» .«row_heights») ≡ 128) where

@@ -4,7 +4,7 @@ use Prim.Native.Nat.{ℕ, _+_}
 use mathlib.Core.Bool.{Bool, false, cond}
 use mathlib.Core.List.{List, [], _∷_, _++_}
 use lib.Dec.{eqb}
-use Rattle.emath.specs.Refusals.{least, orElse, pairFault, sizeFault, edgesFault, outside, frameFault}
+use Rattle.emath.specs.Refusals.{least, orElse, pairFault, sizeFault, edgesFault, outside}
 use Rattle.emath.specs.declared.Rect.{Rect}
 use Rattle.emath.specs.declared.Vec2.{Vec2}
 use Rattle.region.specs.Refusals.{zeroRect}
@@ -45,11 +45,11 @@ cellOf k sp p s = record { frame = nextSpace k p s sp; widget = justifyAndAlign 
 abbrev pub pastCell : Vec2 → Placer → Cell → Placer
 pastCell sp p c = advanceAfterRects p (c .frame) (c .widget) sp
 
--- RULES 8.3, 8.18: one order for all three calls: 4 to 8 of what they are given, then 9 and 10 of the frame, the widget and the new placer
+-- RULES 8.3, 8.18: one order for all three calls: 4 to 8 of what they are given, then 9 of the frame, the widget and the new placer
 unfoldable pub widgetFault : Vec2 → Placer → Vec2 → Cell → ℕ
 widgetFault sp p s c =
     orElse (least (placerFault p ∷ sizeFault s ∷ pairFault (sp .x) (sp .y) ∷ advanceFault p ∷ []))
-    (least (frameFault (c .frame) ∷ outside (edgesFault (c .widget)) ∷ outside (placerFault (pastCell sp p c)) ∷ []))
+    (outside (least (edgesFault (c .frame) ∷ edgesFault (c .widget) ∷ placerFault (pastCell sp p c) ∷ [])))
 
 -- RULES 6.15: the new placer, or the given one where the W is refused
 unfoldable pub widgetStep : Vec2 → Placer → Vec2 → Cell → Stepped

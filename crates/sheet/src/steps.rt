@@ -2,14 +2,12 @@
 use crate::StepResult;
 use emath::Rect;
 use emath::Vec2;
-use emath::faults::edges_fault;
-use emath::faults::frame_fault;
 use emath::faults::lesser_number;
 use emath::faults::or_else;
-use emath::faults::outside_domain;
 use emath::faults::pair_fault;
 use emath::faults::size_fault;
 use emath::numbers::MALFORMED;
+use emath::numbers::OUTSIDE;
 use placer::PassState;
 use placer::PlacerSettings;
 use placer::StateAnswer;
@@ -37,13 +35,14 @@ fn given_number(placer: PlacerSettings, state: PassState, spacing: Vec2, size: V
     )
 }
 
-// 9 and 10, of what they answer; `past` is the number of the placer after them.
+// 9, of what they answer; `past` is the number of the placer after them.
 fn answered_number(frame: Rect, widget: Rect, past: u8) -> u8
     ensures { λ n. ⌜ n ≡ answeredNumber frame widget past ⌝ }
 {
-    let state = outside_domain(past);
-    let rect = lesser_number(outside_domain(edges_fault(widget)), state);
-    lesser_number(frame_fault(frame), rect)
+    if frame.is_within() & (widget.is_within() & (past == 0)) {
+        return 0;
+    }
+    OUTSIDE
 }
 
 // W: `next_space`, then `justify_and_align`, then `advance_after_rects`.

@@ -11,7 +11,7 @@ use crate::values::Values;
 pub struct Expected<V> {
     /// The number of each argument, the parts of a region or a grid apart; 0 where there is no more.
     arguments: [u8; MOST_PARTS],
-    /// The number of what the Rust answers, 9 or 10, or 0.
+    /// The number of what the Rust answers, 9 or 0.
     answer: u8,
     /// What the Rust answers.
     value: V,
@@ -81,7 +81,7 @@ impl<V: Clone> Expected<V> {
 /// The calls of one operation, by number; 0 is for the accepted.
 #[derive(Default)]
 pub struct Counts {
-    numbers: [Cell<u64>; 11],
+    numbers: [Cell<u64>; 10],
     mixed: Cell<u64>,
 }
 
@@ -96,7 +96,7 @@ impl Counts {
 
     fn show(&self) -> String {
         // 7 and 8 are a grid's.
-        let shown = (4..=10).filter(|&n| !(7..=8).contains(&n) || self.numbers[n].get() != 0);
+        let shown = (4..=9).filter(|&n| !(7..=8).contains(&n) || self.numbers[n].get() != 0);
         let counted = shown.map(|n| format!("{n}: {}", self.numbers[n].get()));
         let refused = counted.collect::<Vec<_>>().join(", ");
         let (accepted, mixed) = (self.numbers[0].get(), self.mixed.get());

@@ -121,13 +121,6 @@ fn refusals(t: &mut Tally) {
         |r| probe::emath_faults_rect_fault(r),
         faults::of_rect,
     );
-    t.drawn(
-        "faults::frame_fault",
-        100,
-        four,
-        |r| probe::emath_faults_frame_fault(r),
-        faults::of_frame,
-    );
 }
 
 /// Every argument there is, which for some is fewer than are drawn elsewhere.

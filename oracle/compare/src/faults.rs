@@ -1,5 +1,7 @@
 //! RULES 5, and the numbers of RULES 8, worked out here a second time.
 
+use std::sync::atomic::{AtomicU64, Ordering};
+
 use crate::values::Edges;
 
 /// RULES 5.2, in points.
@@ -103,10 +105,19 @@ pub fn of_answer(number: u8) -> u8 {
     turned_back(&[(9, number != 0)])
 }
 
-/// RULES 8.14: 9, and 10 where the frame is inside out.
-pub fn of_frame(rect: &Edges) -> u8 {
-    let outside = !is_finite(rect) || !is_within(rect);
-    turned_back(&[(9, outside), (10, is_inside_out(rect))])
+/// The frames and widgets that RULES 8.14 speaks of and that were looked at.
+pub static UPRIGHT: AtomicU64 = AtomicU64::new(0);
+
+/// RULES 8.13, of a frame or of a widget in any rectangle. By RULES 8.14 it is not inside out if the
+/// size is not negative, wherever its edges lie. Should the Rust ever give another there is no
+/// number for it, and the run stops.
+pub fn of_frame(size: &[f32; 2], rect: &Edges) -> u8 {
+    if size.iter().all(|&length| length >= 0.0) {
+        let sound = !is_inside_out(rect);
+        assert!(sound, "for {size:?} the Rust gave {rect:?}, inside out");
+        UPRIGHT.fetch_add(1, Ordering::Relaxed);
+    }
+    of_answer(of_lengths(rect))
 }
 
 /// RULES 3.1: the room of a memory.

@@ -24,6 +24,7 @@ mod values;
 
 use std::env;
 use std::process::ExitCode;
+use std::sync::atomic::Ordering;
 
 use parts::Part;
 use tally::Tally;
@@ -39,6 +40,15 @@ const FEWEST: u64 = if cfg!(feature = "placer") {
     35_000_000
 } else {
     20_000_000
+};
+
+/// The same of the frames and widgets that RULES 8.14 speaks of.
+const FEWEST_UPRIGHT: u64 = if cfg!(feature = "placer") {
+    10_000_000
+} else if cfg!(feature = "layout") {
+    2_000_000
+} else {
+    0
 };
 
 /// Those that take longest come first, so that no processor is left alone with one at the end.
@@ -126,8 +136,11 @@ fn compare(seed: u64, times: u64) -> ExitCode {
         lacks,
         ..
     } = parts::run(PARTS, seed, times);
+    // Of RULES 8.14: the run would have stopped at the first that is.
+    let upright = faults::UPRIGHT.load(Ordering::Relaxed);
+    println!("compare: {upright} frames and widgets of the Rust, none inside out");
     println!("compare: {cases} cases, {differences} differences");
-    if differences == 0 && lacks == 0 && cases >= FEWEST {
+    if differences == 0 && lacks == 0 && cases >= FEWEST && upright >= FEWEST_UPRIGHT {
         ExitCode::SUCCESS
     } else {
         ExitCode::FAILURE

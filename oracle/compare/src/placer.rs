@@ -7,6 +7,7 @@ mod port;
 mod probe;
 mod sequences;
 mod states;
+pub mod widgets;
 
 use egui::grid::driver::Grid;
 use egui::placer::driver::Running;
@@ -103,6 +104,7 @@ pub fn compare(t: &mut Tally) {
         );
     }
     sequences::compare(t);
+    widgets::compare(t);
     corners.show(t);
 }
 

@@ -100,7 +100,6 @@ unsafe extern "C" {
     pub safe fn emath_faults_size_fault(x: f32, y: f32) -> u8;
     pub safe fn emath_faults_edges_fault(r: &Edges) -> u8;
     pub safe fn emath_faults_rect_fault(r: &Edges) -> u8;
-    pub safe fn emath_faults_frame_fault(r: &Edges) -> u8;
     pub safe fn emath_faults_outside_domain(n: u8) -> u8;
 
     pub safe fn layout_default(out: &mut Counts);

@@ -121,7 +121,6 @@ impl<const CHECKED: bool> Pass<CHECKED> {
             let fits = answers && (!self.in_grid || within(&remembered));
             self.checked(if fits { 0 } else { 9 })?;
             self.new_state()?;
-            self.checked(if in_order(&edges(frame)) { 0 } else { 10 })?;
         }
         put_ticks(&mut places[..4], frame);
         put_ticks(&mut places[4..], widget);

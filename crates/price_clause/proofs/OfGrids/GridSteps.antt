@@ -9,7 +9,7 @@ use Rattle.emath.specs.Rectangles.{isInfinite, union}
 use Rattle.emath.specs.Domain.{within}
 use Rattle.emath.specs.Refusals.{least}
 use Rattle.emath.proofs.Tests.{is-lt}
-use Rattle.emath.proofs.Refusals.{lesser-none, when-none, edges-within, frame-none}
+use Rattle.emath.proofs.Refusals.{lesser-none, when-none, edges-within}
 use Rattle.emath.specs.declared.Rect.{Rect}
 use Rattle.emath.specs.declared.Vec2.{Vec2}
 use Rattle.region.specs.Regions as regions
@@ -79,7 +79,7 @@ cell-move k sp p i s x y h =
     let r = p .region in
     let c = cellOf k sp p s in
     let a = grid-cell k sp p s (i .grid) h in
-    let w = edges-within (c .frame) (frame-none (c .frame) (a .placed .frame)) in
+    let w = edges-within (c .frame) (a .placed .frame) in
     let q = widgetStep sp p s c .placer in
     record {
       frame = ap edgesOf (frame-is k sp p s (i .grid)) ∙ cell-is k g (r .cursor) (r .«min_rect») s;

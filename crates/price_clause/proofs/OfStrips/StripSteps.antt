@@ -18,7 +18,7 @@ use Rattle.emath.proofs.Exact.{Small}
 use Rattle.emath.proofs.Values.{val-min, val-max}
 use Rattle.emath.proofs.Edges.{within-steps}
 use Rattle.emath.proofs.Sums.{edge-small}
-use Rattle.emath.proofs.Refusals.{lesser-none, edges-within, frame-none}
+use Rattle.emath.proofs.Refusals.{lesser-none, edges-within}
 use Rattle.emath.specs.declared.Rect.{Rect}
 use Rattle.emath.specs.declared.Vec2.{Vec2}
 use Rattle.emath.specs.declared.Align.{Align}
@@ -144,7 +144,7 @@ module _ (k : ℕ) (l : k ≤ 6) (a : Align) (o : Place) (O : Sound o) (sp : Vec
       let p = placerAt k a o in
       let c = cellOf k sp p (sizeIn k w h) in
       let A = widget-placed sp p (sizeIn k w h) c e in
-      let d = edges-within placed (rw frame-is at (frame-none (c .frame) (A .frame))) in
+      let d = edges-within placed (rw frame-is at A .frame) in
       let X = few k (omega arith) (o .x +ℤ w) (omega (arith, sum (o .x) w)) (d .right) in
       let Y = few k (omega arith) (o .top +ℤ h) (omega (arith, sum (o .top) h)) (d .bottom) in
       let same : pastCell sp p c ≡ placerAt k a (pastControl o s w h) = rw (frame-is, widget-is X Y) (past-is X Y) in

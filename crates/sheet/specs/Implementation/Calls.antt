@@ -6,7 +6,7 @@ use lib.ListN.{length}
 use lib.Ieee.{Float}
 use Rattle.emath.specs.Numbers as number
 use Rattle.emath.specs.Steps.{tick}
-use Rattle.emath.specs.Refusals.{least, sizeFault, pairFault, edgesFault, outside, frameFault}
+use Rattle.emath.specs.Refusals.{least, sizeFault, pairFault, edgesFault, outside}
 use Rattle.emath.specs.declared.Rect.{Rect}
 use Rattle.emath.specs.declared.Vec2.{Vec2}
 use Rattle.region.specs.Refusals.{zeroRect}
@@ -42,12 +42,12 @@ pub record Ready (p : PlacerSettings) (s : PassState) (pw ph ws hs : List Float)
   pub cols : length ws ≡ 32
   pub rows : length hs ≡ 128
 
--- where the placer has no fault: 4 to 8 of what a W's calls are given; 9 and 10 of what they answer, `past` being the new placer's number
+-- where the placer has no fault: 4 to 8 of what a W's calls are given; 9 of what they answer, `past` being the new placer's number
 unfoldable pub givenNumber : Placer → Vec2 → Vec2 → ℕ
 givenNumber p sp s = least (sizeFault s ∷ pairFault (sp .x) (sp .y) ∷ advanceFault p ∷ [])
 
 unfoldable pub answeredNumber : Rect → Rect → ℕ → ℕ
-answeredNumber f w past = least (frameFault f ∷ outside (edgesFault w) ∷ outside past ∷ [])
+answeredNumber f w past = outside (least (edgesFault f ∷ edgesFault w ∷ past ∷ []))
 
 -- a W, and a record that is one call
 unfoldable pub placement : Placer → Vec2 → Vec2 → CallResult

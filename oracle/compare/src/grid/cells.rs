@@ -104,7 +104,7 @@ pub fn next_cell(
     let others = [of_cursor(dir, cursor), of_sizes(size), of_direction(dir)];
     Expected::asked(&with_grid(g, &others), [0.0; 4], || {
         let frame = edges(rust(rect(cursor), pair(size)));
-        (of_frame(&frame), frame)
+        (of_frame(size, &frame), frame)
     })
 }
 
@@ -118,7 +118,7 @@ pub fn aligned(
     let others = [of_sizes(size), of_rect(frame)];
     Expected::asked(&with_grid(g, &others), [0.0; 4], || {
         let widget = edges(rust(rect(frame), pair(size)));
-        (of_answer(of_lengths(&widget)), widget)
+        (of_frame(size, &widget), widget)
     })
 }
 

@@ -126,7 +126,7 @@ fn next_frames(t: &mut Tally, corners: &Corners) {
             let frame = edges(driver::next_frame(layout(l), g, pair(size), pair(s)));
             let [min_rect, max_rect, cursor] = of_region(l[0], g);
             let arguments = [min_rect, max_rect, cursor, of_sizes(size), of_lengths(s)];
-            let expected = Expected::made(&arguments, of_frame(&frame), frame);
+            let expected = Expected::made(&arguments, of_frame(size, &frame), frame);
             if expected.number() == 0 {
                 corners.next_frame(l, g, size);
             }
@@ -146,7 +146,7 @@ fn next_frames(t: &mut Tally, corners: &Corners) {
             let frame = edges(driver::next_frame_ignore_wrap(layout(l), g, pair(size)));
             let [min_rect, max_rect, cursor] = of_region(l[0], g);
             let arguments = [min_rect, max_rect, cursor, of_sizes(size)];
-            let expected = Expected::made(&arguments, of_frame(&frame), frame);
+            let expected = Expected::made(&arguments, of_frame(size, &frame), frame);
             if expected.number() == 0 {
                 corners.next_frame_ignore_wrap(l, g, &frame);
             }
@@ -178,8 +178,9 @@ fn widgets(t: &mut Tally) {
             asked(&given, probe::layout_justify_and_align)
         },
         |(l, f, size)| {
-            let r = driver::justify_and_align(layout(l), rect(f), pair(size));
-            placed(&[of_rect(f), of_sizes(size)], r)
+            let widget = edges(driver::justify_and_align(layout(l), rect(f), pair(size)));
+            let arguments = [of_rect(f), of_sizes(size)];
+            Expected::made(&arguments, of_frame(size, &widget), widget)
         },
     );
     t.answered(

@@ -62,6 +62,9 @@ pub const KINDS: [(&str, &[usize]); 22] = [
     ("Placer::set_min_height", &[4, 5, 6, 7, 8, 9]),
 ];
 
+/// Where next_space stands among them.
+pub const NEXT_SPACE: usize = 8;
+
 /// Where the calls that take one length begin.
 pub const BY_LENGTH: usize = 14;
 
@@ -76,7 +79,7 @@ impl Call {
             Self::AlignSizeWithinRect(..) => 5,
             Self::AvailableRectBeforeWrap => 6,
             Self::AvailableSize => 7,
-            Self::NextSpace(..) => 8,
+            Self::NextSpace(..) => NEXT_SPACE,
             Self::NextWidgetPosition => 9,
             Self::JustifyAndAlign(..) => 10,
             Self::NextWidgetSpaceIgnoreWrapJustify(_) => 11,
@@ -162,8 +165,10 @@ impl Call {
     /// The number of what the Rust gives.
     fn number_after(&self, outcome: &Outcome) -> u8 {
         match outcome {
-            Outcome::Rect(frame) if matches!(self, Self::NextSpace(..)) => of_frame(frame),
-            Outcome::Rect(r) => of_answer(of_lengths(r)),
+            Outcome::Rect(r) => match self {
+                Self::NextSpace(size, _) | Self::JustifyAndAlign(_, size) => of_frame(size, r),
+                _ => of_answer(of_lengths(r)),
+            },
             Outcome::Pair(v) => of_answer(of_lengths(v)),
             Outcome::Placer(new) => new.number_as_new(),
             Outcome::Saved(_) => 0,

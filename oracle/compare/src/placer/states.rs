@@ -4,7 +4,8 @@ use egui::grid::driver::{Grid, Memory};
 use egui::placer::driver::ByLength;
 
 use super::Placer;
-use super::calls::{BY_LENGTH, Call};
+use super::calls::{BY_LENGTH, Call, NEXT_SPACE};
+use super::widgets::Wanted;
 use crate::faults::rect_of;
 use crate::grid::states::begin;
 use crate::layout::states::Draw;
@@ -83,6 +84,14 @@ pub fn asked(v: &mut Values, kind: usize) -> (Placer, Call) {
         d.spoil_grid(g);
     }
     (p, call)
+}
+
+/// A placer with the size and spacing of a W.
+pub fn widget(v: &mut Values) -> (Placer, Wanted) {
+    match asked(v, NEXT_SPACE) {
+        (p, Call::NextSpace(size, spacing)) => (p, (size, spacing)),
+        _ => unreachable!("the kind is next_space's"),
+    }
 }
 
 impl Draw<'_> {

@@ -5,12 +5,12 @@ use egui::placer::driver::{ByLength, Running};
 
 use super::reference::{self, Outcome as Checked, Record, lines, record_at};
 use crate::emath_ops::{edges, rect};
-use crate::faults::{least, of_answer, of_frame, of_lengths};
+use crate::faults::least;
+use crate::grid::New;
 use crate::grid::moves::{new as new_grid, running};
-use crate::grid::{NO_GRID, New};
 use crate::layout::layout;
 use crate::placer::calls::{Call, expected, run};
-use crate::placer::{Outcome, Placer, new as new_placer};
+use crate::placer::{Outcome, Placer, new as new_placer, widgets};
 use crate::values::{Edges, TICKS_PER_POINT};
 
 /// What a pass is given; an absent memory is one that is not known.
@@ -113,40 +113,20 @@ impl<'a> Pass<'a> {
         }
     }
 
-    fn rect(&mut self, call: &Call) -> Edges {
-        match run(&mut self.rust, call, &NO_GRID) {
-            Outcome::Rect(r) => r,
-            _ => unreachable!("the call gives a rectangle"),
-        }
-    }
-
     /// W: `next_space`, `justify_and_align`, `advance_after_rects`. First the numbers of what the
     /// three are given, then those of what they give.
     fn widget(&mut self, size: [f32; 2]) -> Result<(), u8> {
-        let spacing = self.spacing;
-        let space = Call::NextSpace(size, spacing);
-        let anywhere = Call::AdvanceAfterRects([0.0; 4], [0.0; 4], spacing);
-        let state = &self.state;
-        let calls = [space.numbers(state), anywhere.numbers(state)].concat();
-        let given = least(&[state.numbers(), calls].concat());
+        let wanted = (size, self.spacing);
+        let given = least(&widgets::given(&self.state, &wanted));
         if given != 0 {
             return Err(given);
         }
-        let frame = self.rect(&space);
-        let widget = self.rect(&Call::JustifyAndAlign(frame, size));
-        let advance = Call::AdvanceAfterRects(frame, widget, spacing);
-        run(&mut self.rust, &advance, &NO_GRID);
-        let after = Placer::of(&self.rust, &self.state.grid);
-        let numbers = [
-            of_frame(&frame),
-            of_answer(of_lengths(&widget)),
-            after.number_as_new(),
-        ];
+        let (numbers, laid) = widgets::laid(&self.state, &mut self.rust, &wanted);
         match least(&numbers) {
             0 => {
-                self.state = after;
-                self.out.extend(ticks(&frame));
-                self.out.extend(ticks(&widget));
+                self.state = laid.after;
+                self.out.extend(ticks(&laid.frame));
+                self.out.extend(ticks(&laid.widget));
                 Ok(())
             }
             number => Err(number),

@@ -66,7 +66,7 @@ impl Same for Seen {
 
 /// How often each number was met, and each corner.
 struct Met {
-    numbers: [u64; 11],
+    numbers: [u64; 10],
     corners: [u64; CORNERS.len()],
 }
 
@@ -109,7 +109,7 @@ impl Met {
     }
 
     fn show(&self, t: &mut Tally) {
-        let refused = (1..=10).map(|n| format!("{n}: {}", self.numbers[n]));
+        let refused = (1..=9).map(|n| format!("{n}: {}", self.numbers[n]));
         let refused = refused.collect::<Vec<_>>().join(", ");
         say!(t, "  accepted {}; refused {refused}", self.numbers[0]);
         if self.numbers[0] * 3 < self.numbers.iter().sum() {
@@ -160,7 +160,7 @@ pub fn compare(t: &mut Tally) {
     let (cases, differences) = (t.cases, t.differences);
     let mut values = Values::new(Rng::new(t.seed, NAME));
     let mut met = Met {
-        numbers: [0; 11],
+        numbers: [0; 10],
         corners: [0; CORNERS.len()],
     };
     for _ in 0..SHEETS * t.times {

@@ -170,7 +170,12 @@ pub struct Heading {
 pub fn heading(text: &[u8]) -> Result<Heading, usize> {
     let mut lines = lines(text);
     let first = lines.next().ok_or(1_usize)?;
-    let Some(Record::Heading { layout, max_rect, spacing }) = record(first) else {
+    let Some(Record::Heading {
+        layout,
+        max_rect,
+        spacing,
+    }) = record(first)
+    else {
         return Err(1);
     };
     let mut heading = Heading {
@@ -188,7 +193,13 @@ pub fn heading(text: &[u8]) -> Result<Heading, usize> {
     let Some(second) = lines.next().filter(|line| line[0] == b'G') else {
         return Ok(heading);
     };
-    let Some(Record::Grid { min_cell, max_cell, columns, start_row }) = record(second) else {
+    let Some(Record::Grid {
+        min_cell,
+        max_cell,
+        columns,
+        start_row,
+    }) = record(second)
+    else {
         return Err(2);
     };
     heading.grid = true;

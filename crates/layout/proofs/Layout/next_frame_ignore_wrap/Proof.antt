@@ -8,7 +8,7 @@ use Rattle.layout.proofs.Layout.next_frame_ignore_wrap.Tie as tie
 
 returns : tie.Need-returns
 unfolding checkedNextFrameIgnoreWrap nextFrameIgnoreWrapNumber least
-returns c = rw (c .framed-rect .ensures, c .before .lesser-number .ensures, c .before .before .size-fault .ensures, c .before .before .before .region-fault .ensures, c .before .before .before .before .next-frame-ignore-wrap .ensures) (refl, rect-says _ _)
+returns c = rw (c .placed-rect .ensures, c .before .lesser-number .ensures, c .before .before .size-fault .ensures, c .before .before .before .region-fault .ensures, c .before .before .before .before .next-frame-ignore-wrap .ensures) (refl, rect-says _ _)
 
 pub next-frame-ignore-wrap-spec : {M : Type 1} → statement M
 next-frame-ignore-wrap-spec = tie.close (tie.spec (λ c κs. tt) (λ c κs. tt) (λ c κs. tt) (λ c κs. tt) (λ c κs. tt) returns)

@@ -8,7 +8,7 @@ use Rattle.placer.proofs.Placer.next_space.Tie as tie
 
 returns : tie.Need-returns
 unfolding checkedNextSpace nextSpaceNumber least
-returns c = rw (c .framed-rect .ensures, c .before .lesser-number2 .ensures, c .before .before .placer-fault .ensures, c .before .before .before .lesser-number .ensures, c .before .before .before .before .pair-fault .ensures, c .before .before .before .before .before .size-fault .ensures, c .before .before .before .before .before .before .next-space .ensures) (refl, rect-says _ _)
+returns c = rw (c .placed-rect .ensures, c .before .lesser-number2 .ensures, c .before .before .placer-fault .ensures, c .before .before .before .lesser-number .ensures, c .before .before .before .before .pair-fault .ensures, c .before .before .before .before .before .size-fault .ensures, c .before .before .before .before .before .before .next-space .ensures) (refl, rect-says _ _)
 
 pub next-space-spec : {M : Type 1} → statement M
 next-space-spec = tie.close (tie.spec (λ c κs. tt) (λ c κs. tt) (λ c κs. tt) (λ c κs. tt) (λ c κs. tt) (λ c κs. tt) (λ c κs. tt) returns)

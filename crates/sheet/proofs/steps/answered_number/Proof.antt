@@ -1,13 +1,15 @@
 -- `sheet::steps::answered_number` meets its contract. Assumes nothing.
-use Rattle.emath.specs.Refusals.{least}
-use Rattle.sheet.specs.Implementation.Calls.{answeredNumber}
+use mathlib.Core.Bool.{true, false}
 use borrow.Author.Needs.{needs}
+use Rattle.sheet.proofs.Stepping.{answered-is}
 use Rattle.sheet.proofs.steps.answered_number.Statement.{statement}
 use Rattle.sheet.proofs.steps.answered_number.Tie as tie
 
 returns : tie.Need-returns
-unfolding answeredNumber least
-returns c = rw (c .lesser-number2 .ensures, c .before .frame-fault .ensures, c .before .before .lesser-number .ensures, c .before .before .before .outside-domain2 .ensures, c .before .before .before .before .edges-fault .ensures, c .before .before .before .before .before .outside-domain .ensures)
+returns c = answered-is _ _ _ true (rw (← c .before .is-within2 .ensures, ← c .before .before .is-within .ensures) (c .if1 .taken))
+
+returns-2 : tie.Need-returns-2
+returns-2 c = answered-is _ _ _ false (rw (← c .before .is-within2 .ensures, ← c .before .before .is-within .ensures) (c .if1 .left))
 
 pub answered-number-spec : {M : Type 1} → statement M
-answered-number-spec = tie.close (tie.spec (λ c κs. search needs) (λ c κs. search needs) (λ c κs. search needs) (λ c κs. search needs) (λ c κs. search needs) (λ c κs. search needs) returns)
+answered-number-spec = tie.close (tie.spec (λ c κs. search needs) (λ c κs. search needs) returns returns-2)

@@ -48,7 +48,7 @@ const REFUSED: [&str; 3] = [
 ];
 
 pub struct Met {
-    numbers: [u64; 11],
+    numbers: [u64; 10],
     accepted: [u64; ACCEPTED.len()],
     refused: [u64; REFUSED.len()],
     letters: [u64; LETTERS.len()],
@@ -117,7 +117,7 @@ fn of_list(listed: &Listed, widgets: usize) -> [bool; 3] {
 impl Met {
     pub fn new() -> Self {
         Self {
-            numbers: [0; 11],
+            numbers: [0; 10],
             accepted: [0; ACCEPTED.len()],
             refused: [0; REFUSED.len()],
             letters: [0; LETTERS.len()],
@@ -183,7 +183,7 @@ impl Met {
     }
 
     pub fn show(&self, t: &mut Tally) {
-        let refused = (1..=10).map(|n| format!("{n}: {}", self.numbers[n]));
+        let refused = (1..=9).map(|n| format!("{n}: {}", self.numbers[n]));
         let refused = refused.collect::<Vec<_>>().join(", ");
         say!(t, "  accepted {}; refused {refused}", self.numbers[0]);
         if self.numbers[0] * 2 < self.numbers.iter().sum() {

@@ -5,6 +5,7 @@ use Prim.Native.Nat.{ℕ, _*_, _<_, _≤_, zero, suc}
 use native.Mathlib.Nat.{sub-self, mul-pos}
 use native.Mathlib.Omega.{arith}
 use mathlib.Core.Bool.{Bool, true, false, cond, not, _&&_, true≢false}
+use mathlib.Core.List.{List, [], _∷_}
 use lib.Dec.{T, eqb, ltb, eqb→eq, ltb→lt, nltb→le}
 use borrow.Author.Tests.{eq-eqb, eqb-true}
 use lib.IntN.{pos}
@@ -107,6 +108,16 @@ pub when-none : (b : Bool) (n : ℕ) → when (not b) (suc n) ≡ 0 → b ≡ tr
 when-none true n h = refl
 when-none false n h = absurd (let z : suc n ≡ 0 = h in omega arith)
 
+pub when-never : (b : Bool) (n : ℕ) → when b (suc n) ≡ 0 → b ≡ false
+when-never true n h = absurd (let z : suc n ≡ 0 = h in omega arith)
+when-never false n h = refl
+
+-- and of all together, where none of them has one
+pub least-none : (n : ℕ) (ns : List ℕ) → n ≡ 0 → least ns ≡ 0 → least (n ∷ ns) ≡ 0
+unfolding least
+least-none n [] e h = e
+least-none n (m ∷ ms) e h = rw (e, zero-lesser) h
+
 pub edges-fit : (r : Rect) → edgesFault r ≡ 0 → edgesOf within r ≡ true
 unfolding edgesFault least
 edges-fit r h = when-none (edgesOf within r) 4 (lesser-none (when (not (edgesOf finite r)) 4) (when (not (edgesOf within r)) 5) h .1)
@@ -161,8 +172,4 @@ edges-within r h =
 
 pub rect-none : (r : Rect) → rectFault r ≡ 0 → (edgesFault r ≡ 0) × (insideOut r ≡ false)
 unfolding rectFault least
-rect-none r h = let p = lesser-none (edgesFault r) (when (insideOut r) 6) h in (p .0, out (insideOut r) (p .1))
-  where
-    out : (b : Bool) → when b 6 ≡ 0 → b ≡ false
-    out true h = absurd (let z : _≡_ {A = ℕ} 6 0 = h in omega arith)
-    out false h = refl
+rect-none r h = let p = lesser-none (edgesFault r) (when (insideOut r) 6) h in (p .0, when-never (insideOut r) 5 (p .1))

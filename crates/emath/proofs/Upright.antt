@@ -3,10 +3,7 @@
 use mathlib.Core.Path.{_≡_, refl, sym}
 use mathlib.Core.Logic.{_⊎_, inl, inr}
 use mathlib.Core.Bool.{Bool, true, false, cond, _&&_, _||_, true≢false}
-use Prim.Native.Nat.{ℕ}
-use native.Mathlib.Omega.{arith}
 use lib.Dec.{T}
-use lib.IntN.{pos}
 use lib.Ieee.{Float, nan, inf, fin, binary32, ofBits, add, sub, div, lt, le, eq}
 use lib.Ieee.Fits.{and-i, and-l, and-r}
 use Rattle.emath.specs.Rectangles.{zeroF, twoF, maxF, centreOn, fromMinSize, translate, isInfinite, centred, alignedTo, alignOn, alignWithin}
@@ -15,10 +12,11 @@ use Rattle.emath.specs.Binary32.{F32, RectF32}
 use Rattle.emath.specs.Refusals.{when, least, pairFault, edgesFault, sizeFault}
 use Rattle.emath.proofs.Tests.{both, neither, T-true}
 use Rattle.emath.proofs.OrderLaws.{Number, lt-nan, le-trans, not-lt-le}
+use Rattle.emath.proofs.Zeros.{plusZero}
 use Rattle.emath.proofs.MinMax.{max-first-le}
 use Rattle.emath.proofs.SumOrder.{add-not-below, sub-not-above, difference-not-below, infinitely-apart}
 use Rattle.emath.proofs.Binary32.{sum-f32, difference-f32}
-use Rattle.emath.proofs.Refusals.{lesser-none, when-none, edges-within, within-finite}
+use Rattle.emath.proofs.Refusals.{lesser-none, when-none, when-never, edges-within, within-finite}
 use Rattle.emath.specs.declared.Rect.{Rect}
 use Rattle.emath.specs.declared.Vec2.{Vec2}
 use Rattle.emath.specs.declared.Pos2.{Pos2}
@@ -58,13 +56,9 @@ unfolding sizeFault pairFault least bothOf negative atLeastZero
 size-at-least-zero s h =
     let p = lesser-none _ (when (lt (s .x) zeroF || lt (s .y) zeroF) 6) h in
     let f = both (finite (s .x)) (finite (s .y)) (when-none (finite (s .x) && finite (s .y)) 3 (lesser-none _ _ (p .0) .0)) in
-    let n = neither (lt (s .x) zeroF) (lt (s .y) zeroF) (never (lt (s .x) zeroF || lt (s .y) zeroF) (p .1)) in
+    let n = neither (lt (s .x) zeroF) (lt (s .y) zeroF) (when-never (lt (s .x) zeroF || lt (s .y) zeroF) 5 (p .1)) in
     and-i (le zeroF (s .x)) (le zeroF (s .y)) (up (s .x) (f .0) (n .0)) (up (s .y) (f .1) (n .1))
   where
-    never : (b : Bool) → when b 6 ≡ 0 → b ≡ false
-    never true h = absurd (let z : _≡_ {A = ℕ} 6 0 = h in omega arith)
-    never false h = refl
-
     up : (x : Float) → finite x ≡ true → lt x zeroF ≡ false → Up x
     up x f h = not-lt-le zeroF x (unfold ofBits in tt) (finite-number x f) h
 
@@ -124,7 +118,7 @@ add-nan (fin s m e) = refl
 shifted : (x low high : Float) → F32 x → lt high low ≡ false → lt (add binary32 x (sub binary32 high low)) x ≡ false
 shifted x low high f h = go (difference-not-below low high h)
   where
-    go : (sub binary32 high low ≡ nan) ⊎ T (le (fin false 0 (pos 0)) (sub binary32 high low)) → lt (add binary32 x (sub binary32 high low)) x ≡ false
+    go : (sub binary32 high low ≡ nan) ⊎ T (le plusZero (sub binary32 high low)) → lt (add binary32 x (sub binary32 high low)) x ≡ false
     go (inl e) = rw (e, add-nan x) (lt-nan x .0)
     go (inr u) = add-not-below x (sub binary32 high low) (f .holds) u
 

@@ -12,6 +12,8 @@ pub mod Listed
 mod RowHeights
 mod Settling
 pub mod FurtherPasses
+-- The cells of a pass, one by one.
+mod CellRuns
 -- Whole steps.
 pub mod WholeTops
 pub mod WholeEdges

@@ -1,12 +1,11 @@
 -- The frames and widgets of the W before a fault, or of all, are upright, and each W is its three calls: in every pass of a sheet whose
 -- max_rect is f32, as every text's is, with any records, any given memory, sizing or not. For every step. Assumes nothing.
-use Prim.Native.Nat.{ℕ, _+_}
-use mathlib.Core.Path.{_≡_, refl, sym, subst}
+use Prim.Native.Nat.{ℕ}
+use mathlib.Core.Path.{_≡_, sym, subst}
 use mathlib.Core.Bool.{Bool, true, false, cond}
-use mathlib.Core.List.{List, [], _∷_, _++_}
+use mathlib.Core.List.{List, [], _∷_}
 use lib.Dec.{eqb}
 use lib.Ieee.{Float}
-use borrow.Author.Tests.{eqb-true}
 use Rattle.emath.specs.Binary32.{F32, RectF32}
 use Rattle.emath.specs.Steps.{tick, Edge}
 use Rattle.emath.proofs.Binary32.{zero-f32, val-f32, max-f32}
@@ -24,16 +23,15 @@ use Rattle.placer.specs.Operations.{checkedNew, checkedSetGrid, checkedAdvanceC
 use Rattle.placer.proofs.UprightSpaces.{next-space-upright, next-space-f32, justify-and-align-upright}
 use Rattle.placer.proofs.PlacersF32.{PlacerF32, new-f32, zero-placer-f32, answered-f32, advance-cursor-f32, set-row-height-f32, end-row-f32, set-max-width-f32, set-max-height-f32, set-min-width-f32, set-min-height-f32, advance-after-rects-f32, set-grid-f32}
 use Rattle.placer.specs.declared.Placer.{Placer}
-use Rattle.placer.specs.declared.PlacerAnswer.{PlacerAnswer}
 use Rattle.records.specs.declared.Heading.{Heading}
 use Rattle.records.specs.declared.Step.{Step}
 use Rattle.records.specs.declared.Step.the-variants.{Widget, Space, RowHeight, MaxWidth, MaxHeight, MinWidth, MinHeight, RowEnd}
-use Rattle.sheet.specs.Pass.{Sheet, Cell, Stepped, Ran, cellOf, pastCell, widgetFault, widgetStep, called, stepped, followed, runFrom, headed, gridOf, gridSet, begun, ranWith, pass}
+use Rattle.sheet.specs.Pass.{Sheet, cellOf, pastCell, widgetFault, widgetStep, stepped, headed, gridOf, gridSet, pass}
 use Rattle.sheet.specs.Texts.{sheetIn}
 use Rattle.sheet.proofs.Runs.{widget-placed}
-use Rattle.sheet.proofs.Slices.{outcome-cells}
 use Rattle.sheet.proofs.WidgetCalls.{is-its-calls}
-use Rattle.pass_laws.specs.Upright.{UprightCells, none, more, ByCalls, AllByCalls, firstPlacer, PassByCalls}
+use Rattle.pass_laws.specs.Upright.{UprightCell, UprightCells, ByCalls, AllByCalls, firstPlacer, PassByCalls}
+use Rattle.pass_laws.proofs.CellRuns.{pass-each}
 use Rattle.pass_laws.proofs.TextTicks.{text-whole}
 
 -- ---- a record keeps f32 edges
@@ -58,23 +56,15 @@ module _ (k : ℕ) (sp : Vec2) (p : Placer) (f : PlacerF32 p) where
   stepped-f32 (MinHeight h) = answered-f32 _ p _ f (set-min-height-f32 p f k h)
 
   -- ---- and so a W that is accepted is upright, and any W is its calls
-  widget-upright : (s : Vec2) → widgetStep sp p s (cellOf k sp p s) .number ≡ 0 → UprightCells (cellOf k sp p s ∷ [])
+  widget-upright : (s : Vec2) → widgetStep sp p s (cellOf k sp p s) .number ≡ 0 → UprightCell (cellOf k sp p s)
   widget-upright s n =
       let a = widget-placed sp p s (cellOf k sp p s) n in
       let z = size-at-least-zero s (a .size) in
       let r = nextSpace k p s sp in
-      more (upright-within r (next-space-upright k p s sp (f .region .outer) (f .region .cursor) z) (a .frame)) (upright-within (justifyAndAlign k p r s) (justify-and-align-upright k p r s (next-space-f32 k p s sp) z) (a .widget)) none
-
-  stepped-upright : (st : Step) → stepped k sp p st .number ≡ 0 → UprightCells (stepped k sp p st .cells)
-  unfolding stepped widgetStep
-  stepped-upright (Widget w h) n = widget-upright (record { x = w; y = h }) n
-  stepped-upright (Space a) n = none
-  stepped-upright RowEnd n = none
-  stepped-upright (RowHeight h) n = none
-  stepped-upright (MaxWidth w) n = none
-  stepped-upright (MaxHeight h) n = none
-  stepped-upright (MinWidth w) n = none
-  stepped-upright (MinHeight h) n = none
+      record {
+        frame = upright-within r (next-space-upright k p s sp (f .region .outer) (f .region .cursor) z) (a .frame);
+        widget = upright-within (justifyAndAlign k p r s) (justify-and-align-upright k p r s (next-space-f32 k p s sp) z) (a .widget);
+      }
 
   step-calls : (st : Step) → ByCalls k sp p st
   unfolding ByCalls
@@ -88,23 +78,6 @@ module _ (k : ℕ) (sp : Vec2) (p : Placer) (f : PlacerF32 p) where
   step-calls (MinHeight h) = tt
 
 -- ---- the steps one after the other
-both : {a b : List Cell} → UprightCells a → UprightCells b → UprightCells (a ++ b)
-both none y = y
-both (more a b x) y = more a b (both x y)
-
-followed-upright : (n : ℕ) (a : Stepped) (later : Ran) → (a .number ≡ 0 → UprightCells (a .cells)) → UprightCells (later .cells) → UprightCells (followed n a later .cells)
-unfolding followed
-followed-upright n a later f r = go (eqb (a .number) 0) refl
-  where
-    go : (b : Bool) → eqb (a .number) 0 ≡ b → UprightCells (followed n a later .cells)
-    go true e = rw e (both (f (eqb-true (a .number) 0 e)) r)
-    go false e = rw e none
-
-run-upright : (k : ℕ) (sp : Vec2) (n : ℕ) (p : Placer) (steps : List Step) → PlacerF32 p → UprightCells (runFrom k sp n p steps .cells)
-unfolding runFrom
-run-upright k sp n p [] f = none
-run-upright k sp n p (st ∷ rest) f = followed-upright n (stepped k sp p st) _ (stepped-upright k sp p f st) (run-upright k sp (n + 1) (stepped k sp p st .placer) rest (stepped-f32 k sp p f st))
-
 run-calls : (k : ℕ) (sp : Vec2) (p : Placer) (steps : List Step) → PlacerF32 p → AllByCalls k sp p steps
 unfolding AllByCalls
 run-calls k sp p [] f = tt
@@ -136,32 +109,20 @@ module _ (k : ℕ) (s : Sheet) (known : Bool) (m : Memory) (sizing : Bool) (f : 
   first : PlacerF32 (headed k (s .heading) .placer)
   first = headed-f32 k (s .heading) f
 
-  ran-upright : UprightCells (ranWith k s known m sizing (headed k (s .heading) .placer) .cells)
-  unfolding ranWith begun
-  ran-upright = go (s .heading .«has_grid»)
-    where
-      p : Placer
-      p = headed k (s .heading) .placer
-
-      g : PlacerAnswer
-      g = gridSet (s .heading) known m sizing p
-
-      go : (b : Bool) → UprightCells (cond b (followed (s .heading .records) (called g) (runFrom k (s .heading .spacing) (s .heading .records + 1) (g .placer) (s .steps))) (runFrom k (s .heading .spacing) (s .heading .records + 1) p (s .steps)) .cells)
-      go true = followed-upright (s .heading .records) (called g) _ (λ (e : g .number ≡ 0). none) (run-upright k (s .heading .spacing) (s .heading .records + 1) (g .placer) (s .steps) (grid-set-f32 (s .heading) known m sizing p first))
-      go false = run-upright k (s .heading .spacing) (s .heading .records + 1) p (s .steps) first
+  gridded : PlacerF32 (gridSet (s .heading) known m sizing (headed k (s .heading) .placer) .placer)
+  gridded = grid-set-f32 (s .heading) known m sizing (headed k (s .heading) .placer) first
 
   pub pass-upright : UprightCells (pass k s known m sizing .cells)
-  unfolding pass begun
   pass-upright =
-      let h = headed k (s .heading) in
-      let r = ranWith k s known m sizing (h .placer) in
-      subst UprightCells (sym (outcome-cells (s .heading .«has_grid») m (followed 1 (called h) r))) (followed-upright 1 (called h) r (λ (e : h .number ≡ 0). none) ran-upright)
+      pass-each k s known m sizing UprightCell PlacerF32
+      (λ (p : Placer) (z : Vec2) (i : PlacerF32 p). widget-upright k (s .heading .spacing) p i z) (λ (p : Placer) (st : Step) (i : PlacerF32 p). stepped-f32 k (s .heading .spacing) p i st)
+      first gridded
 
   pub pass-calls : PassByCalls k s known m sizing
   pass-calls = run-calls k (s .heading .spacing) (firstPlacer k s known m sizing) (s .steps) (go (s .heading .«has_grid»))
     where
       go : (b : Bool) → PlacerF32 (cond b (gridSet (s .heading) known m sizing (headed k (s .heading) .placer) .placer) (headed k (s .heading) .placer))
-      go true = grid-set-f32 (s .heading) known m sizing (headed k (s .heading) .placer) first
+      go true = gridded
       go false = first
 
 -- ---- a text's sheet: its lengths are whole ticks

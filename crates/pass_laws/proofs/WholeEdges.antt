@@ -3,13 +3,11 @@
 -- 1/64 point. Assumes nothing.
 use Prim.Native.Nat.{ℕ, _+_, _≤_}
 use mathlib.Core.Path.{_≡_, refl, sym, _∙_, subst}
-use mathlib.Core.Bool.{Bool, true, false, cond}
-use mathlib.Core.List.{List, [], _∷_, _++_}
+use mathlib.Core.Bool.{Bool, true, false}
+use mathlib.Core.List.{List, [], _∷_}
 use native.Mathlib.Omega.{arith}
-use lib.Dec.{eqb}
 use lib.IntN.{pos}
 use lib.Ieee.{Float, ofBits}
-use borrow.Author.Tests.{eqb-true}
 use Rattle.emath.specs.Rectangles.{zeroF}
 use Rattle.emath.specs.Steps.{Edge}
 use Rattle.emath.proofs.Zeros.{val-zero}
@@ -25,71 +23,30 @@ use Rattle.placer.proofs.WholeCalls.{new-whole, advance-cursor-whole-steps, set
 use Rattle.placer.proofs.WholePlacers.{set-max-width-whole, set-max-height-whole, set-min-width-whole, set-min-height-whole}
 use Rattle.grid.specs.declared.Memory.{Memory}
 use Rattle.placer.specs.declared.Placer.{Placer}
-use Rattle.placer.specs.declared.PlacerAnswer.{PlacerAnswer}
 use Rattle.records.specs.declared.Step.{Step}
 use Rattle.records.specs.declared.Step.the-variants.{Widget, Space, RowHeight, MaxWidth, MaxHeight, MinWidth, MinHeight, RowEnd}
-use Rattle.pass_laws.specs.WholeCells.{WholeCells, none, more}
-use Rattle.sheet.specs.Pass.{Sheet, Cell, Stepped, Ran, cellOf, widgetStep, called, stepped, followed, runFrom, headed, gridSet, begun, ranWith, plateOf, pass}
+use Rattle.pass_laws.specs.WholeCells.{WholeCells}
+use Rattle.pass_laws.specs.EachCell.{EachCell, none, more}
+use Rattle.sheet.specs.Pass.{Sheet, Cell, Ran, cellOf, widgetStep, stepped, runFrom, plateOf, pass}
 use Rattle.pass_laws.specs.WholeSheets.{WholeSteps, WholeSheet}
 use Rattle.sheet.proofs.Runs.{widget-placed, run-goes}
 use Rattle.sheet.proofs.Passes.{Ended, well, badly, outcome-ends, grid-pass, PlainPass, plain-pass, start}
 use Rattle.sheet.proofs.PlacedCells.{WholeCell, cell-whole}
-use Rattle.sheet.proofs.Slices.{outcome-cells}
+use Rattle.pass_laws.proofs.CellRuns.{pass-each}
 use Rattle.pass_laws.proofs.GridMoves.{LeftAlone, advance-alone, row-height-alone, max-width-alone, max-height-alone, min-width-alone, min-height-alone}
 use Rattle.pass_laws.proofs.WholeTops.{passed-through}
 
 -- ---- frames and widgets
-module _ (k : ℕ) (l : k ≤ 7) where
-  one : {c : Cell} → WholeCell k c → WholeCells k (c ∷ [])
-  one w = more (w .frame) (w .widget) none
+cells-whole : {k : ℕ} {cs : List Cell} → EachCell (WholeCell k) cs → WholeCells k cs
+cells-whole none = WholeCells.none
+cells-whole (more w rest) = WholeCells.more (w .frame) (w .widget) (cells-whole rest)
 
-  -- the cells of one record
-  stepped-whole : (sp : Vec2) (p : Placer) (st : Step) → stepped k sp p st .number ≡ 0 → WholeCells k (stepped k sp p st .cells)
-  unfolding stepped widgetStep
-  stepped-whole sp p (Widget w h) n = one (cell-whole k l sp p (record { x = w; y = h }) (widget-placed sp p (record { x = w; y = h }) (cellOf k sp p (record { x = w; y = h })) n))
-  stepped-whole sp p (Space a) n = none
-  stepped-whole sp p RowEnd n = none
-  stepped-whole sp p (RowHeight h) n = none
-  stepped-whole sp p (MaxWidth w) n = none
-  stepped-whole sp p (MaxHeight h) n = none
-  stepped-whole sp p (MinWidth w) n = none
-  stepped-whole sp p (MinHeight h) n = none
-
-  both : {a b : List Cell} → WholeCells k a → WholeCells k b → WholeCells k (a ++ b)
-  both none y = y
-  both (more a b x) y = more a b (both x y)
-
-  followed-cells : (n : ℕ) (a : Stepped) (later : Ran) → (a .number ≡ 0 → WholeCells k (a .cells)) → WholeCells k (later .cells) → WholeCells k (followed n a later .cells)
-  unfolding followed
-  followed-cells n a later f r = go (eqb (a .number) 0) refl
-    where
-      go : (b : Bool) → eqb (a .number) 0 ≡ b → WholeCells k (followed n a later .cells)
-      go true e = rw e (both (f (eqb-true (a .number) 0 e)) r)
-      go false e = rw e none
-
-  run-cells : (sp : Vec2) (n : ℕ) (p : Placer) (steps : List Step) → WholeCells k (runFrom k sp n p steps .cells)
-  unfolding runFrom
-  run-cells sp n p [] = none
-  run-cells sp n p (st ∷ rest) = followed-cells n (stepped k sp p st) _ (stepped-whole sp p st) (run-cells sp (n + 1) (stepped k sp p st .placer) rest)
-
-  ran-cells : (s : Sheet) (known : Bool) (m : Memory) (sizing : Bool) (p : Placer) → WholeCells k (ranWith k s known m sizing p .cells)
-  unfolding ranWith begun
-  ran-cells s known m sizing p = go (s .heading .«has_grid»)
-    where
-      g : PlacerAnswer
-      g = gridSet (s .heading) known m sizing p
-
-      go : (b : Bool) → WholeCells k (cond b (followed (s .heading .records) (called g) (runFrom k (s .heading .spacing) (s .heading .records + 1) (g .placer) (s .steps))) (runFrom k (s .heading .spacing) (s .heading .records + 1) p (s .steps)) .cells)
-      go true = followed-cells (s .heading .records) (called g) _ (λ (e : g .number ≡ 0). none) (run-cells (s .heading .spacing) (s .heading .records + 1) (g .placer) (s .steps))
-      go false = run-cells (s .heading .spacing) (s .heading .records + 1) p (s .steps)
-
-  -- the W before a fault, or all of them
-  pub pass-cells : (s : Sheet) (known : Bool) (m : Memory) (sizing : Bool) → WholeCells k (pass k s known m sizing .cells)
-  unfolding pass begun
-  pass-cells s known m sizing =
-      let h = headed k (s .heading) in
-      let r = ranWith k s known m sizing (h .placer) in
-      subst (WholeCells k) (sym (outcome-cells (s .heading .«has_grid») m (followed 1 (called h) r))) (followed-cells 1 (called h) r (λ (e : h .number ≡ 0). none) (ran-cells s known m sizing (h .placer)))
+-- the W before a fault, or all of them, from any placer
+pub pass-cells : (k : ℕ) → k ≤ 7 → (s : Sheet) (known : Bool) (m : Memory) (sizing : Bool) → WholeCells k (pass k s known m sizing .cells)
+pass-cells k l s known m sizing =
+    cells-whole (pass-each k s known m sizing (WholeCell k) (λ (p : Placer). Unit {0})
+    (λ (p : Placer) (z : Vec2) (i : Unit {0}) (n : widgetStep (s .heading .spacing) p z (cellOf k (s .heading .spacing) p z) .number ≡ 0). cell-whole k l (s .heading .spacing) p z (widget-placed (s .heading .spacing) p z (cellOf k (s .heading .spacing) p z) n))
+    (λ (p : Placer) (st : Step) (i : Unit {0}). tt) tt tt)
 
 -- ---- the plate without a grid: the placer stays whole
 module _ (k : ℕ) (l : k ≤ 6) (sp : Vec2) (S : WholeSize k sp) where

@@ -4,4 +4,5 @@ pub mod WholeSheets
 pub mod WholeCells
 pub mod Columns
 pub mod Tops
+pub mod EachCell
 pub mod Upright

@@ -11,11 +11,15 @@ use Rattle.records.specs.declared.Step.{Step}
 use Rattle.records.specs.declared.Step.the-variants.{Widget, Space, RowHeight, MaxWidth, MaxHeight, MinWidth, MinHeight, RowEnd}
 use Rattle.sheet.specs.Pass.{Sheet, Cell, stepped, headed, gridSet}
 use Rattle.sheet.specs.WidgetCalls.{IsItsCalls}
+use Rattle.pass_laws.specs.EachCell.{EachCell}
 
--- RULES 8.14: each W's frame is upright, and its widget
-pub data UprightCells : List Cell → Type 0 where
-  none : UprightCells []
-  more : {c : Cell} {cs : List Cell} → T (upright (c .frame)) → T (upright (c .widget)) → UprightCells cs → UprightCells (c ∷ cs)
+-- RULES 8.14: a W's frame is upright, and its widget; and so each W's
+pub record UprightCell (c : Cell) : Type 0 where
+  pub frame : T (upright (c .frame))
+  pub widget : T (upright (c .widget))
+
+abbrev pub UprightCells : List Cell → Type 0
+UprightCells cells = EachCell UprightCell cells
 
 -- RULES 8.18: a step that is a W is its three calls
 unfoldable pub ByCalls : ℕ → Vec2 → Placer → Step → Type 0

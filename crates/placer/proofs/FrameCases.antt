@@ -10,7 +10,7 @@ use Rattle.emath.specs.Domain as domain
 use Rattle.emath.specs.Domain.{insideOut, upright}
 use Rattle.emath.specs.Binary32.{F32, RectF32}
 use Rattle.emath.specs.Refusals as refusals
-use Rattle.emath.specs.Refusals.{pairFault, sizeFault}
+use Rattle.emath.specs.Refusals.{sizeFault, rectFault}
 use Rattle.emath.specs.Steps.{tick}
 use Rattle.region.specs.Directions as directions
 use Rattle.region.specs.Regions.{zeroVec}
@@ -18,6 +18,10 @@ use Rattle.region.specs.Binary32.{RegionF32}
 use Rattle.region.specs.Refusals as region-refusals
 use Rattle.region.specs.Refusals.{regionFault}
 use Rattle.region.specs.Operations as region-calls
+use Rattle.grid.specs.Entries.{entriesFault}
+use Rattle.grid.specs.Grids.{emptyGrid}
+use Rattle.grid.specs.Refusals as grid-refusals
+use Rattle.placer.specs.Refusals.{gridPart, placerFault}
 use Rattle.layout.specs.Layouts as layouts
 use Rattle.layout.specs.Layouts.{plain}
 use Rattle.layout.specs.Rules as layout-rules
@@ -30,6 +34,7 @@ use Rattle.region.specs.declared.Direction.{Direction}
 use Rattle.region.specs.declared.Direction.the-variants.{LeftToRight, RightToLeft}
 use Rattle.region.specs.declared.Region.{Region}
 use Rattle.layout.specs.declared.Layout.{Layout}
+use Rattle.placer.specs.declared.Placer.{Placer}
 
 -- ---- the cases
 -- a region that is the point (x, 0)
@@ -69,10 +74,15 @@ turned = record { «min_rect» = at zeroF; «max_rect» = at zeroF; cursor = rec
 abbrev pub endless : Region
 endless = record { «min_rect» = at zeroF; «max_rect» = at zeroF; cursor = record { left = inf true; top = one; right = zeroF; bottom = one } }
 
+-- a placer with a grid there
+abbrev pub gridPlacer : Placer
+gridPlacer = record { «has_grid» = true; grid = emptyGrid; layout = plain LeftToRight Min; region = pointAt furthest }
+
 -- ---- what they show
 pub record FrameCases : Type 0 where
-  -- arguments without a fault, and f32: the frame is accepted, and one that reaches beyond the limit is refused with 9
+  -- arguments without a fault, and f32, for each crate's calls: a frame is accepted, and one that reaches beyond the limit gets 9
   pub met : (regionFault LeftToRight (pointAt furthest) ≡ 0) × (sizeFault (wide one) ≡ 0) × RegionF32 (pointAt furthest)
+  pub met-placer : (placerFault gridPlacer ≡ 0) × (rectFault (at furthest) ≡ 0)
   pub accepted : nextFrameIgnoreWrapNumber tick (plain LeftToRight Min) (pointAt furthest) zeroVec ≡ 0
   pub refused : nextFrameIgnoreWrapNumber tick (plain LeftToRight Min) (pointAt furthest) (wide one) ≡ 9
   -- a negative width
@@ -91,9 +101,10 @@ unfolding ofBits fits
 furthest-f32 = let f : F32 furthest = record { holds = tt } in let z : F32 zeroF = record { holds = tt } in record { left = f; top = z; right = f; bottom = z }
 
 pub frame-cases : FrameCases
-unfolding rectangles.minF rectangles.maxF rectangles.translate rectangles.intersect rectangles.centred rectangles.alignedTo rectangles.alignOn rectangles.alignWithin rectangles.roundF rectangles.roundBy rectangles.roundRect domain.finite domain.within domain.bothOf domain.edgesOf domain.negative domain.insideOut domain.upright refusals.lesser refusals.least refusals.orElse refusals.pairFault refusals.edgesFault refusals.sizeFault refusals.rectFault refusals.outside directions.isHorizontal region-refusals.zeroIfOpen region-refusals.closed region-refusals.cursorFault region-refusals.regionFault region-calls.placedNumber layouts.horizontalAlign layouts.verticalAlign layouts.align2 layouts.horizontalJustify layouts.verticalJustify layouts.isCenter layout-rules.fromCursor layout-rules.notNegative layout-rules.notNegativeRect layout-rules.availableFromCursorMaxRect layout-rules.availableRectBeforeWrap layout-rules.fillsWidth layout-rules.fillsHeight layout-rules.frameWidth layout-rules.frameHeight layout-rules.frameAlign2 layout-rules.movedDown layout-rules.frameRect layout-rules.nextFrameIgnoreWrap nextFrameIgnoreWrapNumber ofBits up down round sum neg add sub mul div lt le eq ne below level fits
+unfolding rectangles.minF rectangles.maxF rectangles.translate rectangles.intersect rectangles.centred rectangles.alignedTo rectangles.alignOn rectangles.alignWithin rectangles.roundF rectangles.roundBy rectangles.roundRect domain.finite domain.within domain.bothOf domain.edgesOf domain.negative domain.insideOut domain.upright refusals.lesser refusals.least refusals.orElse refusals.pairFault refusals.edgesFault refusals.sizeFault refusals.rectFault refusals.outside directions.isHorizontal region-refusals.zeroIfOpen region-refusals.closed region-refusals.cursorFault region-refusals.regionFault region-calls.placedNumber layouts.horizontalAlign layouts.verticalAlign layouts.align2 layouts.horizontalJustify layouts.verticalJustify layouts.isCenter layout-rules.fromCursor layout-rules.notNegative layout-rules.notNegativeRect layout-rules.availableFromCursorMaxRect layout-rules.availableRectBeforeWrap layout-rules.fillsWidth layout-rules.fillsHeight layout-rules.frameWidth layout-rules.frameHeight layout-rules.frameAlign2 layout-rules.movedDown layout-rules.frameRect layout-rules.nextFrameIgnoreWrap nextFrameIgnoreWrapNumber entriesFault grid-refusals.memoryFault grid-refusals.maxCellFault grid-refusals.gridFault grid-refusals.fitsGrid grid-refusals.directionFault gridPart placerFault ofBits up down round sum neg add sub mul div lt le eq ne below level fits
 frame-cases = record {
   met = (refl, refl, record { inner = furthest-f32; outer = furthest-f32; cursor = furthest-f32 });
+  met-placer = (refl, refl);
   accepted = refl;
   refused = refl;
   negative = refl;

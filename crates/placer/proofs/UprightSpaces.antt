@@ -3,13 +3,13 @@ use Prim.Native.Nat.{ℕ}
 use mathlib.Core.Path.{_≡_, refl}
 use mathlib.Core.Logic.{inl, inr}
 use mathlib.Core.Bool.{Bool, true, false, cond}
-use mathlib.Core.List.{[], _∷_}
+use mathlib.Core.List.{[]}
 use lib.Dec.{T, eqb}
 use Rattle.emath.specs.Domain.{atLeastZero, insideOut}
 use Rattle.emath.specs.Binary32.{F32, RectF32}
-use Rattle.emath.specs.Refusals.{lesser, least, orElse, pairFault, sizeFault, edgesFault, rectFault, outside}
+use Rattle.emath.specs.Refusals.{least, orElse, pairFault, sizeFault, edgesFault, rectFault, outside}
 use Rattle.emath.proofs.Binary32.{rounded-f32}
-use Rattle.emath.proofs.Refusals.{outside-some, outside-none}
+use Rattle.emath.proofs.Refusals.{least-none, outside-some, outside-none}
 use Rattle.emath.proofs.Upright.{size-at-least-zero, upright-within}
 use Rattle.region.specs.Binary32.{RegionF32}
 use Rattle.region.specs.Refusals.{cursorFault, regionFault}
@@ -81,29 +81,21 @@ asked before r e h = go (eqb (edgesFault r) 0) refl
     go true z = inl (h .unless9 (unfold outside in rw z))
     go false z = inr (rw (e, outside-some (edgesFault r) z))
 
-two-none : (a b : ℕ) → a ≡ 0 → b ≡ 0 → least (a ∷ b ∷ []) ≡ 0
-unfolding least lesser
-two-none a b p q = rw (p, q)
-
-three-none : (a b c : ℕ) → a ≡ 0 → b ≡ 0 → c ≡ 0 → least (a ∷ b ∷ c ∷ []) ≡ 0
-unfolding least lesser
-three-none a b c p q r = rw (p, q, r)
-
-four-none : (a b c d : ℕ) → a ≡ 0 → b ≡ 0 → c ≡ 0 → d ≡ 0 → least (a ∷ b ∷ c ∷ d ∷ []) ≡ 0
-unfolding least lesser
-four-none a b c d p q r t = rw (p, q, r, t)
+none : least [] ≡ 0
+unfolding least
+none = refl
 
 pub frames-upright : FramesUpright
 unfolding layout-calls.nextFrameNumber layout-calls.nextFrameIgnoreWrapNumber grid-calls.nextCellNumber nextSpaceNumber justifyAndAlignNumber
 frames-upright = record {
   nextFrame = λ (k : ℕ) (l : Layout) (g : Region) (s sp : Vec2) (f : RegionF32 g) (a : regionFault (l .«main_dir») g ≡ 0) (b : sizeFault s ≡ 0) (c : pairFault (sp .x) (sp .y) ≡ 0).
-      asked _ _ (three-none _ _ _ a b c) (none-inside-out .nextFrame k l g s sp (f .outer) (f .cursor) (size-at-least-zero s b));
+      asked _ _ (least-none _ _ a (least-none _ _ b (least-none _ [] c none))) (none-inside-out .nextFrame k l g s sp (f .outer) (f .cursor) (size-at-least-zero s b));
   nextFrameIgnoreWrap = λ (k : ℕ) (l : Layout) (g : Region) (s : Vec2) (f : RegionF32 g) (a : regionFault (l .«main_dir») g ≡ 0) (b : sizeFault s ≡ 0).
-      asked _ _ (two-none _ _ a b) (none-inside-out .nextFrameIgnoreWrap k l g s (f .outer) (f .cursor) (size-at-least-zero s b));
+      asked _ _ (least-none _ _ a (least-none _ [] b none)) (none-inside-out .nextFrameIgnoreWrap k l g s (f .outer) (f .cursor) (size-at-least-zero s b));
   nextCell = λ (k : ℕ) (g : GridLayout) (d : Direction) (c : Rect) (s : Vec2) (f : RectF32 c) (a : gridFault g ≡ 0) (b : cursorFault d c ≡ 0) (e : sizeFault s ≡ 0) (i : directionFault d ≡ 0).
-      asked _ _ (four-none _ _ _ _ a b e i) (none-inside-out .nextCell k g c s (f .left) (f .top) (size-at-least-zero s e));
+      asked _ _ (least-none _ _ a (least-none _ _ b (least-none _ _ e (least-none _ [] i none)))) (none-inside-out .nextCell k g c s (f .left) (f .top) (size-at-least-zero s e));
   nextSpace = λ (k : ℕ) (p : Placer) (s sp : Vec2) (f : RegionF32 (p .region)) (a : placerFault p ≡ 0) (b : sizeFault s ≡ 0) (c : pairFault (sp .x) (sp .y) ≡ 0).
-      asked _ _ (three-none _ _ _ a b c) (none-inside-out .nextSpace k p s sp (f .outer) (f .cursor) (size-at-least-zero s b));
+      asked _ _ (least-none _ _ a (least-none _ _ b (least-none _ [] c none))) (none-inside-out .nextSpace k p s sp (f .outer) (f .cursor) (size-at-least-zero s b));
   justifyAndAlign = λ (k : ℕ) (p : Placer) (f : Rect) (s : Vec2) (e : RectF32 f) (a : placerFault p ≡ 0) (b : rectFault f ≡ 0) (c : sizeFault s ≡ 0).
-      asked _ _ (three-none _ _ _ a b c) (none-inside-out .justifyAndAlign k p f s e (size-at-least-zero s c));
+      asked _ _ (least-none _ _ a (least-none _ _ b (least-none _ [] c none))) (none-inside-out .justifyAndAlign k p f s e (size-at-least-zero s c));
 }

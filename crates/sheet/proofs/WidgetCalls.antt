@@ -158,10 +158,10 @@ module _ (k : ℕ) (sp : Vec2) (p : Placer) (s : Vec2) where
         let n = fault-is ∙ number-is in
         record {
           number = n;
-          placer = rw n (pick (eqb (callsNumber k sp p s) 0) (λ (e : eqb (callsNumber k sp p s) 0 ≡ true). sym (answered (eqb-true (callsNumber k sp p s) 0 e) .placer)) refl);
+          placer = rw n (pick (eqb (callsNumber k sp p s) 0) (λ (e : eqb (callsNumber k sp p s) 0 ≡ true). sym (answered (eqb-true (callsNumber k sp p s) 0 e) .placer)));
           cell = λ (h : callsNumber k sp p s ≡ 0). rw (answered h .widget, answered h .frame);
         }
       where
-        pick : (b : Bool) → (b ≡ true → pastCell sp p (cellOf k sp p s) ≡ advanceCall k sp p s .placer) → b ≡ b → cond b (pastCell sp p (cellOf k sp p s)) p ≡ cond b (advanceCall k sp p s .placer) p
-        pick true h e = h refl
-        pick false h e = refl
+        pick : (b : Bool) → (b ≡ true → pastCell sp p (cellOf k sp p s) ≡ advanceCall k sp p s .placer) → cond b (pastCell sp p (cellOf k sp p s)) p ≡ cond b (advanceCall k sp p s .placer) p
+        pick true h = h refl
+        pick false h = refl

@@ -1,6 +1,6 @@
 -- The laws of fields. Layers above cite them as Rattle.text.proofs.NAME.
-mod Table
-mod Turns
+mod Columns
+mod Writing
 mod Outcomes
 pub mod RoundTrip
 mod ScanSound

@@ -1,5 +1,5 @@
 -- A line's numbers, one after the other: a turn of each loop, and what each return answers. Assumes nothing.
-use Prim.Native.Nat.{ℕ, zero, suc, _+_, _-_, _*_, _≤_, _<_}
+use Prim.Native.Nat.{ℕ, suc, _+_, _-_, _*_, _≤_, _<_}
 use mathlib.Core.Path.{_≡_, refl, ap, sym, _∙_}
 use mathlib.Core.List.{List, [], _∷_, _++_}
 use mathlib.Core.Bool.{Bool, true, false, cond}
@@ -10,8 +10,9 @@ use borrow.Author.Tests.{le-leb, lt-leb}
 use lib.IntN.{ℤ, pos, natAbs}
 use lib.ListN.{length, getD, drop, set, drop-of-length-le, length-append}
 use lib.Seq.{sets, drop-cons}
-use Rattle.text.specs.Fields.{columns, text, negative, hasText}
+use Rattle.text.specs.Fields.{text, negative, hasText}
 use Rattle.text.specs.Lines.{texts, haveTexts, line, lineAt}
+use Rattle.text.proofs.Columns.{columns-length}
 
 -- the numbers from i on begin with number i
 from : (zs : List ℤ) (i : ℕ) → i < length zs → drop i zs ≡ getD zs i (pos 0) ∷ drop (i + 1) zs
@@ -41,11 +42,6 @@ module _ (zs : List ℤ) (i : ℕ) (r : Bool) (inv : haveTexts (drop i zs) ≡ r
   have-end h = (rw (drop-of-length-le zs h) at inv)
 
 -- ---- put_texts
-columns-length : (neg : Bool) (n k : ℕ) → length (columns neg n k) ≡ k
-unfolding columns
-columns-length neg n zero = refl
-columns-length neg n (suc k) = ap suc (columns-length neg n k)
-
 pub texts-length : (zs : List ℤ) → length (texts zs) ≡ 8 * length zs
 unfolding texts
 texts-length [] = refl

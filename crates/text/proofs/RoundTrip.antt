@@ -4,7 +4,7 @@ use mathlib.Core.Path.{_≡_, refl, ap, sym, _∙_}
 use mathlib.Core.List.{List, [], _∷_}
 use mathlib.Core.Bool.{Bool, true, false, cond}
 use native.Mathlib.Omega.{arith}
-use native.Mathlib.Nat.{pow-suc, div-div-eq-div-mul, div-eq-of-lt, div-one, div-le-self, pow-le-pow-right}
+use native.Mathlib.Nat.{pow-suc, div-eq-of-lt, div-one, div-le-self, pow-le-pow-right}
 use borrow.Author.Tests.{lt-ltb, le-ltb, le-leb, lt-leb, eq-eqb, ne-eqb, eqb-true, leb-false, ltb-true, ltb-false}
 use lib.Dec.{leb, ltb, eqb, lit<}
 use lib.ListN.{length, take, drop}
@@ -12,6 +12,7 @@ use lib.IntN.{ℤ, pos, negsuc, negℤ, natAbs}
 use mathlib.Core.Logic.{_⊎_, inl, inr}
 use Rattle.text.specs.Fields.{shown, column, columns, text, hasText, grow, digitsFrom, same, blank, numberOf, field, fieldAt}
 use Rattle.text.specs.declared.Field.the-variants.{Blank, Number, Wrong}
+use Rattle.text.proofs.Columns.{next-power, minus-at, blank-at}
 
 -- ---- equality of lists, as a test
 
@@ -72,19 +73,16 @@ no-digit false false = omega arith
 grow-column : (neg : Bool) (n k : ℕ) → n < 100000000 → grow (n / 10 ^ suc k) (column neg n k) ≡ n / 10 ^ k
 grow-column neg n k h = go (shown n (10 ^ k)) refl
   where
-    below : n / 10 ^ suc k ≡ n / 10 ^ k / 10
-    below = ap (λ (m : ℕ). n / m) (pow-suc 10 k) ∙ sym (div-div-eq-div-mul n (10 ^ k) 10)
-
     small : n / 10 ^ k < 100000000
     small = omega (arith, div-le-self n (10 ^ k))
 
     go : (b : Bool) → shown n (10 ^ k) ≡ b → grow (n / 10 ^ suc k) (column neg n k) ≡ n / 10 ^ k
-    go true e = column-shown neg n k e (λ (c : ℕ). grow (n / 10 ^ suc k) c ≡ n / 10 ^ k) (grow-digit (n / 10 ^ suc k) (n / 10 ^ k) below small)
+    go true e = column-shown neg n k e (λ (c : ℕ). grow (n / 10 ^ suc k) c ≡ n / 10 ^ k) (grow-digit (n / 10 ^ suc k) (n / 10 ^ k) (next-power n k) small)
     go false e =
         let l : max n 1 < 10 ^ k = leb-false (10 ^ k) (max n 1) e in
         let z : n / 10 ^ k ≡ 0 = div-eq-of-lt (omega arith) in
         column-hidden neg n k e (λ (c : ℕ). grow (n / 10 ^ suc k) c ≡ n / 10 ^ k)
-        (grow-other (n / 10 ^ suc k) _ (no-digit neg (shown n (10 ^ k / 10))) ∙ omega (arith, below, z))
+        (grow-other (n / 10 ^ suc k) _ (no-digit neg (shown n (10 ^ k / 10))) ∙ omega (arith, next-power n k, z))
 
 text-digits : (neg : Bool) (n k : ℕ) → n < 100000000 → digitsFrom (n / 10 ^ k) (columns neg n k) ≡ n
 unfolding digitsFrom columns
@@ -130,14 +128,6 @@ differ-here x y xs ys h = simp (ne-eqb x y h)
 
 hidden : (n p : ℕ) → 1 ≤ n → n < p → shown n p ≡ false
 hidden n p h l = lt-leb p (max n 1) (omega arith)
-
-pub minus-at : (n k : ℕ) → shown n (10 ^ k) ≡ false → shown n (10 ^ k / 10) ≡ true → column true n k ≡ 45
-unfolding column
-minus-at n k e s = simp (e, s)
-
-pub blank-at : (n k : ℕ) → shown n (10 ^ k) ≡ false → column false n k ≡ 32
-unfolding column
-blank-at n k e = simp e
 
 sign-by : (n k : ℕ) (b : Bool) → shown n (10 ^ k) ≡ false → shown n (10 ^ k / 10) ≡ b → (xs ys : List ℕ) → (b ≡ false → same xs ys ≡ false)
     → same (column true n k ∷ xs) (column false n k ∷ ys) ≡ false

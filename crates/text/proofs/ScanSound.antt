@@ -1,42 +1,18 @@
 -- What is read as a number, from the left in one go, are that number's columns. Assumes nothing.
-use Prim.Native.Nat.{ℕ, zero, suc, _+_, _-_, _*_, _/_, _%_, _^_, max, _≤_, _<_}
-use mathlib.Core.Path.{_≡_, refl, ap, sym, _∙_}
+use Prim.Native.Nat.{ℕ, zero, suc, _+_, _-_, _*_, _/_, _^_, max, _≤_, _<_}
+use mathlib.Core.Path.{_≡_, refl, sym, _∙_}
 use mathlib.Core.List.{List, [], _∷_}
 use mathlib.Core.Bool.{Bool, true, false, cond, true≢false}
 use native.Mathlib.Omega.{arith}
-use native.Mathlib.Nat.{pow-suc, div-div-eq-div-mul, div-eq-of-lt, div-one, div-lt-iff-lt-mul}
-use borrow.Author.Tests.{le-leb, lt-leb, eq-eqb, eqb-true, leb-true, leb-false, ltb-false}
+use native.Mathlib.Nat.{pow-suc, div-one, div-lt-iff-lt-mul}
+use borrow.Author.Tests.{le-leb, lt-leb, eq-eqb, eqb-true, leb-true, ltb-false}
 use lib.Dec.{leb, ltb, eqb}
 use lib.ListN.{length}
 use lib.IntN.{ℤ, pos, negsuc, negℤ}
 use Rattle.text.specs.Fields.{shown, column, columns}
 use Rattle.text.specs.Implementation.Scanning.{none, valueFrom, zeroOnly, unsigned, fits, plus, minus, signed, scan}
 use Rattle.text.specs.declared.Field.the-variants.{Number, Wrong}
-use Rattle.text.proofs.Turns.{ten-pos}
-use Rattle.text.proofs.RoundTrip.{minus-at}
-
--- ---- powers of ten
-pub next-power : (n k : ℕ) → n / 10 ^ suc k ≡ n / 10 ^ k / 10
-next-power n k = ap (λ (m : ℕ). n / m) (pow-suc 10 k) ∙ sym (div-div-eq-div-mul n (10 ^ k) 10)
-
-reaches : (n m : ℕ) → 1 ≤ n / m → m ≤ n
-reaches n m h = go (leb m n) refl
-  where
-    go : (b : Bool) → leb m n ≡ b → m ≤ n
-    go true e = leb-true m n e
-    go false e = let z : n / m ≡ 0 = div-eq-of-lt (leb-false m n e) in absurd (omega (arith, z))
-
-pub below : (n m : ℕ) → n < m → n / m ≡ 0
-below n m h = div-eq-of-lt h
-
--- ---- a column with a digit in it
-pub digit-at : (neg : Bool) (n k : ℕ) → 10 ^ k ≤ max n 1 → column neg n k ≡ 48 + n / 10 ^ k % 10
-unfolding column
-digit-at neg n k h = rw (le-leb (10 ^ k) (max n 1) h)
-
-pub space-at : (n k : ℕ) → shown n (10 ^ k) ≡ false → shown n (10 ^ k / 10) ≡ false → column true n k ≡ 32
-unfolding column
-space-at n k e s = rw (e, s)
+use Rattle.text.proofs.Columns.{ten-pos, next-power, reaches, not-shown, digit-at, minus-at}
 
 -- ---- digits that are read are the number's columns
 module _ (neg : Bool) where
@@ -107,13 +83,6 @@ module _ (neg : Bool) where
 pub data Read (limit : ℕ) : ℤ → ℕ → List ℕ → Type 0 where
   plain : {n k : ℕ} {f : List ℕ} → columns false n k ≡ f → n < 10 ^ k → 1 ≤ k → n ≤ limit → Read limit (pos n) k f
   below-zero : {n k : ℕ} {f : List ℕ} → columns true (suc n) k ≡ f → 10 * suc n < 10 ^ k → suc n ≤ limit → Read limit (negsuc n) k f
-
-pub ten-at-least : (k : ℕ) → 1 ≤ k → 10 ≤ 10 ^ k
-ten-at-least zero h = absurd (omega arith)
-ten-at-least (suc k) h = omega (arith, pow-suc 10 k, ten-pos k)
-
-pub not-shown : (n k : ℕ) → 1 ≤ k → n < 10 ^ k → shown n (10 ^ k) ≡ false
-not-shown n k h l = lt-leb (10 ^ k) (max n 1) (omega (arith, ten-at-least k h))
 
 one-space : (limit : ℕ) (z : ℤ) (k : ℕ) (f : List ℕ) → Read limit z k f → Read limit z (suc k) (32 ∷ f)
 unfolding columns column

@@ -4,7 +4,7 @@ use mathlib.Core.Path.{_≡_, refl, ap, sym, _∙_}
 use mathlib.Core.List.{List, [], _∷_}
 use mathlib.Core.Bool.{Bool, true, false, cond, true≢false}
 use native.Mathlib.Omega.{arith}
-use native.Mathlib.Nat.{pow-suc, div-one, div-lt-iff-lt-mul, le-div-iff-mul-le}
+use native.Mathlib.Nat.{pow-suc, div-one, div-eq-of-lt, div-lt-iff-lt-mul, le-div-iff-mul-le}
 use borrow.Author.Tests.{lt-ltb, le-ltb, le-leb, eq-eqb, ne-eqb, leb-true, leb-false, ltb-true}
 use lib.Dec.{ltb, eqb}
 use lib.ListN.{length}
@@ -13,9 +13,9 @@ use Rattle.text.specs.Fields.{shown, column, columns, text, hasText, dig
 use Rattle.text.specs.Implementation.Scanning.{none, valueFrom, zeroOnly, unsigned, fits, plus, minus, signed, scan}
 use Rattle.text.specs.declared.Field.{Field}
 use Rattle.text.specs.declared.Field.the-variants.{Blank, Number, Wrong}
-use Rattle.text.proofs.Turns.{ten-pos}
-use Rattle.text.proofs.RoundTrip.{minus-at, blank-at, read-is-text, read-has-text, text-is-read}
-use Rattle.text.proofs.ScanSound.{next-power, below, digit-at, space-at, ten-at-least, not-shown, Read, plain, below-zero, scan-sound}
+use Rattle.text.proofs.Columns.{ten-pos, ten-at-least, next-power, not-shown, digit-at, minus-at, blank-at, space-at}
+use Rattle.text.proofs.RoundTrip.{read-is-text, read-has-text, text-is-read}
+use Rattle.text.proofs.ScanSound.{Read, plain, below-zero, scan-sound}
 
 -- ---- a number's columns are read as the number
 value-of : (neg : Bool) (n k : ℕ) → 10 ^ k ≤ 10 * max n 1 → valueFrom (n / 10 ^ k) (columns neg n k) ≡ n
@@ -37,7 +37,7 @@ unsigned-of neg (suc m) k h s =
     let c = digit-at neg n k h in
     let q : 1 ≤ n / 10 ^ k = le-div-iff-mul-le {k = 10 ^ k} {x = 1} {y = n} (ten-pos k) .1 (omega (arith, h)) in
     let r : n / 10 ^ k < 10 = div-lt-iff-lt-mul {k = 10 ^ k} {x = n} {y = 10} (ten-pos k) .1 (omega (arith, s, p)) in
-    let z : n / 10 ^ suc k ≡ 0 = below n (10 ^ suc k) s in
+    let z : n / 10 ^ suc k ≡ 0 = div-eq-of-lt s in
     let d : column neg n k ≡ 48 → ⊥ = λ e. omega (arith, c, e, q, r) in
     let v = value-of neg n (suc k) (omega (arith, h, p)) in
     rw (ne-eqb (column neg n k) 48 d) (ap (λ (a : ℕ). valueFrom a (column neg n k ∷ columns neg n k)) (sym z) ∙ v)

@@ -1,61 +1,14 @@
 // RULES 6.2 to 6.4: a whole number in eight columns, read and written.
 use crate::Field;
+use crate::digits::put;
 use crate::short::short_number;
 ghost use mathlib.Core.Path.{_≡_};
-ghost use Prim.Native.Nat.{_+_, _^_, _≤_, _<_, max};
+ghost use Prim.Native.Nat.{_+_, _≤_, _<_};
 ghost use lib.ListN.{length, drop};
 ghost use lib.Seq.{sets};
 ghost use lib.IntN.{natAbs};
-ghost use Rattle.text.specs.Fields.{column as columnOf, columns, field, fieldAt, hasText, negative, writtenAt};
+ghost use Rattle.text.specs.Fields.{columns, field, fieldAt, hasText, negative, writtenAt};
 ghost use Rattle.text.specs.Implementation.Scanning.{none, valueFrom, unsigned as unsignedOf, fits as fitsIn, plus as plusOf, minus as minusOf, signed as signedOf, Spaces};
-
-const TENS: [u32; 8] = [1, 10, 100, 1000, 10000, 100000, 1000000, 10000000];
-
-fn ten(j: usize) -> u32
-    requires { ⌜ j < 8 ⌝ }
-    ensures { λ r. ⌜ r ≡ 10 ^ j ⌝ }
-{
-    TENS[j]
-}
-
-fn at_least_one(n: u32) -> u32
-    ensures { λ r. ⌜ r ≡ max n 1 ⌝ }
-{
-    if n < 1 { 1 } else { n }
-}
-
-// The byte in the column of the tens to the power of j. Its digit is the quotient less ten times the quotient of the column before.
-fn column(neg: bool, n: u32, j: usize) -> u8
-    requires { ⌜ j < 8 ⌝ }
-    ensures { λ r. ⌜ r ≡ columnOf neg n j ⌝ }
-{
-    let p = ten(j);
-    let m = at_least_one(n);
-    if p <= m {
-        return b'0' + (n / p - n / (p * 10) * 10) as u8;
-    }
-    if neg {
-        if p / 10 <= m {
-            return b'-';
-        }
-        return b' ';
-    }
-    b' '
-}
-
-// Writes the eight columns from `at`.
-fn put(out: &mut [u8], at: usize, neg: bool, n: u32)
-    requires { ⌜ at + 8 ≤ length (now out) ⌝ }
-    ensures { λ _. ⌜ now (out .exit) ≡ sets (now (out .entry)) at (columns neg n 8) ⌝ }
-{
-    let mut k = 8;
-    let mut i = at;
-    while 0 < k {
-        k -= 1;
-        out[i] = column(neg, n, k);
-        i += 1;
-    }
-}
 
 // No number: none of eight digits is so large.
 pub(crate) const NONE: u32 = 4294967295;

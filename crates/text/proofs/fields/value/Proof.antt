@@ -1,6 +1,6 @@
 -- `text::fields::value` meets its contract. Assumes nothing.
 use Rattle.text.proofs.ScanTurns.{few, seven, eight, value-end, too-low, too-high, value-turn}
-use Rattle.text.proofs.Turns.{ten-pos}
+use Rattle.text.proofs.Columns.{ten-pos}
 use Rattle.text.specs.Implementation.Scanning.{valueFrom}
 use lib.ListN.{drop, length}
 use mathlib.Core.Path.{_≡_, refl}

@@ -1,0 +1,61 @@
+-- Powers of ten, and what stands in one column of a number's text. Assumes nothing.
+use Prim.Native.Nat.{ℕ, zero, suc, _+_, _/_, _%_, _^_, max, _≤_, _<_, zero-le}
+use mathlib.Core.Path.{_≡_, refl, ap, sym, _∙_}
+use mathlib.Core.Bool.{Bool, true, false}
+use native.Mathlib.Omega.{arith}
+use native.Mathlib.Nat.{pow-suc, pow-le-pow-right, div-div-eq-div-mul, div-eq-of-lt}
+use borrow.Author.Tests.{le-leb, lt-leb, leb-true, leb-false}
+use lib.Dec.{leb, lit<}
+use lib.ListN.{length}
+use Rattle.text.specs.Fields.{shown, column, columns}
+
+-- ---- powers of ten
+pub ten-pos : (k : ℕ) → 0 < 10 ^ k
+ten-pos k = pow-le-pow-right {n = 10} (lit< tt) {i = 0} {j = k} zero-le
+
+pub ten-at-least : (k : ℕ) → 1 ≤ k → 10 ≤ 10 ^ k
+ten-at-least zero h = absurd (omega arith)
+ten-at-least (suc k) h = omega (arith, pow-suc 10 k, ten-pos k)
+
+pub next-power : (n k : ℕ) → n / 10 ^ suc k ≡ n / 10 ^ k / 10
+next-power n k = ap (λ (m : ℕ). n / m) (pow-suc 10 k) ∙ sym (div-div-eq-div-mul n (10 ^ k) 10)
+
+pub reaches : (n m : ℕ) → 1 ≤ n / m → m ≤ n
+reaches n m h = go (leb m n) refl
+  where
+    go : (b : Bool) → leb m n ≡ b → m ≤ n
+    go true e = leb-true m n e
+    go false e = let z : n / m ≡ 0 = div-eq-of-lt (leb-false m n e) in absurd (omega (arith, z))
+
+pub below-eight : (n k : ℕ) → n < 100000000 → 10 ^ k ≤ max n 1 → k < 8
+below-eight n k h t = go (leb 8 k) refl
+  where
+    go : (b : Bool) → leb 8 k ≡ b → k < 8
+    go true e = let p : 10 ^ 8 ≤ 10 ^ k = pow-le-pow-right {n = 10} (lit< tt) {i = 8} {j = k} (leb-true 8 k e) in let q : 10 ^ 8 ≡ 100000000 = refl in absurd (omega (arith, p, q))
+    go false e = leb-false 8 k e
+
+-- ---- a digit, the minus, a space
+pub not-shown : (n k : ℕ) → 1 ≤ k → n < 10 ^ k → shown n (10 ^ k) ≡ false
+not-shown n k h l = lt-leb (10 ^ k) (max n 1) (omega (arith, ten-at-least k h))
+
+pub digit-at : (neg : Bool) (n k : ℕ) → 10 ^ k ≤ max n 1 → column neg n k ≡ 48 + n / 10 ^ k % 10
+unfolding column
+digit-at neg n k h = rw (le-leb (10 ^ k) (max n 1) h)
+
+pub minus-at : (n k : ℕ) → shown n (10 ^ k) ≡ false → shown n (10 ^ k / 10) ≡ true → column true n k ≡ 45
+unfolding column
+minus-at n k e s = simp (e, s)
+
+pub blank-at : (n k : ℕ) → shown n (10 ^ k) ≡ false → column false n k ≡ 32
+unfolding column
+blank-at n k e = simp e
+
+pub space-at : (n k : ℕ) → shown n (10 ^ k) ≡ false → shown n (10 ^ k / 10) ≡ false → column true n k ≡ 32
+unfolding column
+space-at n k e s = rw (e, s)
+
+-- ---- all of them
+pub columns-length : (neg : Bool) (n k : ℕ) → length (columns neg n k) ≡ k
+unfolding columns
+columns-length neg n zero = refl
+columns-length neg n (suc k) = ap suc (columns-length neg n k)

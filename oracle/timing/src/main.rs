@@ -1,4 +1,5 @@
-//! How long the Rattle takes for a sheet of 510 records, beside the Rust doing the same work.
+//! How long the Rattle takes for a sheet of 510 records, beside the Rust doing the same work, and
+//! beside an earlier Rattle where the benchmark was given one.
 
 mod measure;
 mod place;
@@ -8,59 +9,112 @@ mod sheets;
 mod works;
 mod write;
 
-use measure::{Times, describe, times};
+use measure::{Times, Work, describe, times};
+use rattle::Rattle;
 use works::Sheet;
 
-/// The Rattle's times, the Rust's, and the Rust's with the checks of RULES 8.
-type Row<'a> = [Option<&'a Times>; 3];
+const ROWS: [&str; 5] = [
+    "the text alone",
+    "(a) a pass, parsed",
+    "(b) a pass from text",
+    "(c) text to list",
+    "(d) the list's lines alone",
+];
 
-fn show(sheet: &Sheet, what: &str, row: Row<'_>) {
-    let number = |x: Option<f64>| x.map_or("-".into(), |x| format!("{x:.2}"));
-    let [ours, rust, checked] = row;
-    let beside = |other: Option<&Times>| number(ours.zip(other).map(|(a, b)| a.ratio(b)));
-    let columns = row.map(|times| number(times.map(Times::median)));
-    let what = format!("{}: {what}", sheet.name);
-    line(&what, &columns, &[beside(rust), beside(checked)]);
+/// Each row's work in the Rust.
+fn in_rust(sheet: &Sheet) -> [Work<'_>; 5] {
+    [
+        sheet.text_alone_in_rust(),
+        sheet.parsed::<false>(),
+        sheet.text_pass_in_rust::<false>(),
+        sheet.list_in_rust::<false>(),
+        sheet.lines_in_rust(),
+    ]
 }
 
-fn line(what: &str, [ours, rust, checked]: &[String; 3], [one, other]: &[String; 2]) {
-    println!("{what:30}{ours:>9}{rust:>9}{one:>8}{checked:>14}{other:>8}");
+/// Rows (a) to (c) with the checks of RULES 8.
+fn checked(sheet: &Sheet) -> [Work<'_>; 3] {
+    [
+        sheet.parsed::<true>(),
+        sheet.text_pass_in_rust::<true>(),
+        sheet.list_in_rust::<true>(),
+    ]
+}
+
+/// All rows but (a): there is no entry point for a parsed sheet.
+fn in_rattle(sheet: &Sheet, tree: Rattle) -> [Work<'_>; 4] {
+    [
+        sheet.text_alone(tree),
+        sheet.text_pass(tree),
+        sheet.list(tree),
+        sheet.lines(tree),
+    ]
+}
+
+/// Each row's times of the Rattle, (a) worked out.
+fn rows(tree: &[Times]) -> [Times; 5] {
+    let [text, pass, list, lines] = tree else {
+        unreachable!("as many as were to be timed");
+    };
+    let laid = pass.less(text);
+    [text, &laid, pass, list, lines].map(Times::clone)
+}
+
+fn number(x: Option<f64>) -> String {
+    x.map_or("-".into(), |x| format!("{x:.2}"))
+}
+
+/// The Rattle's column; then the Rust's, the checked Rust's and an earlier Rattle's, each with what
+/// stands behind it.
+fn line(what: &str, ours: &str, [rust, checked, before]: [[String; 2]; 3]) {
+    let width = 9;
+    print!("{what:33}{ours:>width$}{:>width$}{:>8}", rust[0], rust[1]);
+    print!("{:>14}{:>8}", checked[0], checked[1]);
+    if Rattle::TREES.len() > 1 {
+        print!("{:>width$}{:>8}", before[0], before[1]);
+    }
+    println!();
+}
+
+fn show(what: &str, ours: &Times, others: [Option<&Times>; 3]) {
+    let beside = |other: Option<&Times>| {
+        let ratio = other.map(|other| ours.ratio(other));
+        [other.map(Times::median), ratio].map(number)
+    };
+    line(what, &number(Some(ours.median())), others.map(beside));
 }
 
 /// All that is timed of a sheet takes turns.
 fn time(sheet: &Sheet) {
-    let [ours, rust] = sheet.text_alone();
-    let works = [
-        ours,
-        rust,
-        sheet.parsed::<false>(),
-        sheet.parsed::<true>(),
-        sheet.text_pass(),
-        sheet.text_pass_in_rust::<false>(),
-        sheet.text_pass_in_rust::<true>(),
-        sheet.list(),
-        sheet.list_in_rust::<false>(),
-        sheet.list_in_rust::<true>(),
-    ];
-    let [text, rust_text, parsed, parsed_checked, rest @ ..] = &times(works);
-    let [pass, rust_pass, checked_pass, list, rust_list, checked_list] = rest;
-    // There is no entry point for a parsed sheet.
-    let laid = pass.less(text);
-    show(sheet, "the text alone", [Some(text), Some(rust_text), None]);
-    let rows = [
-        ("(a) a pass, parsed", [&laid, parsed, parsed_checked]),
-        ("(b) a pass from text", [pass, rust_pass, checked_pass]),
-        ("(c) text to list", [list, rust_list, checked_list]),
-    ];
-    for (what, row) in rows {
-        show(sheet, what, row.map(Some));
+    let mut works = Vec::from_iter(in_rust(sheet).into_iter().chain(checked(sheet)));
+    works.extend(
+        Rattle::TREES
+            .iter()
+            .flat_map(|&tree| in_rattle(sheet, tree)),
+    );
+    let times = times(works);
+
+    let (rust, rest) = times.split_at(5);
+    let (checked, rest) = rest.split_at(3);
+    let (here, before) = rest.split_at(4);
+    let here = rows(here);
+    let before = (!before.is_empty()).then(|| rows(before));
+    for (row, what) in ROWS.iter().enumerate() {
+        let checked = row.checked_sub(1).and_then(|n| checked.get(n));
+        let before = before.as_ref().map(|before| &before[row]);
+        let what = format!("{}: {what}", sheet.name);
+        show(&what, &here[row], [Some(&rust[row]), checked, before]);
     }
 }
 
 fn main() {
     println!("{}", describe());
-    let columns = ["Rattle", "Rust", "Rust checked"].map(String::from);
-    line("", &columns, &["ratio", "ratio"].map(String::from));
+    let columns = ["Rust", "Rust checked", "before"];
+    line(
+        "",
+        "Rattle",
+        columns.map(|name| [name, "ratio"].map(String::from)),
+    );
     time(&Sheet::new("strip", sheets::strip(), false));
     time(&Sheet::new("grid", sheets::grid(), true));
     println!("(a) of the Rattle is not measured: it is (b) less the text alone");

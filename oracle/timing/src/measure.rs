@@ -57,12 +57,12 @@ impl Times {
 }
 
 /// Times all, in turns. Each run begins with another side.
-pub fn times<const N: usize>(mut works: [Work<'_>; N]) -> [Times; N] {
-    let batches = works.each_mut().map(batch);
-    let mut times = [const { Times(vec![]) }; N];
+pub fn times(mut works: Vec<Work<'_>>) -> Vec<Times> {
+    let batches = Vec::from_iter(works.iter_mut().map(batch));
+    let mut times = vec![Times(vec![]); works.len()];
     for run in 0..RUNS {
-        for turn in 0..N {
-            let side = (run + turn) % N;
+        for turn in 0..works.len() {
+            let side = (run + turn) % works.len();
             let took = timed(&mut works[side], batches[side]);
             times[side]
                 .0

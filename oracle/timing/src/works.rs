@@ -6,10 +6,10 @@ use egui::grid::driver::Memory;
 
 use crate::measure::Work;
 use crate::place::{Laid, pass};
-use crate::rattle;
+use crate::rattle::Rattle;
 use crate::records::{Record, parse};
 use crate::sheets::faulty;
-use crate::write::{ROOM, print};
+use crate::write::{Line, List, ROOM, lines, print};
 
 const SLICE: usize = 4_096;
 
@@ -20,6 +20,7 @@ pub struct Sheet {
     faulty: Vec<u8>,
     records: Vec<Record>,
     memory: Option<Memory>,
+    lines: Vec<Line>,
 }
 
 fn lent() -> Vec<i32> {
@@ -36,17 +37,24 @@ impl Sheet {
             text,
             records,
             memory: None,
+            lines: vec![],
         };
         if in_grid {
-            sheet.memory = Some(sheet.rattle(&mut lent()).memory);
+            sheet.memory = Some(sheet.rattle(Rattle::Here, &mut lent()).memory);
         }
-        sheet.agree();
+        let mut list = Box::new([0; ROOM]);
+        let length = print::<true>(&sheet.text, &mut vec![], &mut list);
+        sheet.lines = lines(&list[..length]);
+        for &tree in Rattle::TREES {
+            sheet.agree(tree, &list, length);
+        }
         sheet
     }
 
-    fn rattle(&self, out: &mut [i32]) -> Laid {
+    fn rattle(&self, tree: Rattle, out: &mut [i32]) -> Laid {
         let memory = self.memory.as_ref();
-        rattle::pass(&self.text, memory, memory.is_none(), out).expect("a good sheet")
+        tree.pass(&self.text, memory, memory.is_none(), out)
+            .expect("a good sheet")
     }
 
     fn rust<const CHECKED: bool>(&self, records: &[Record], out: &mut [i32]) -> Laid {
@@ -55,10 +63,10 @@ impl Sheet {
     }
 
     /// Both sides have to do the same, or their times say nothing.
-    fn agree(&self) {
+    fn agree(&self, tree: Rattle, list: &[u8; ROOM], length: usize) {
         let mut outs = [lent(), lent(), lent()];
         let [a, b, c] = &mut outs;
-        let one = self.rattle(a);
+        let one = self.rattle(tree, a);
         for other in [
             self.rust::<false>(&self.records, b),
             self.rust::<true>(&self.records, c),
@@ -71,25 +79,46 @@ impl Sheet {
         }
         assert!(a == b && b == c);
 
-        let (mut ours, mut theirs) = (Box::new([0; ROOM]), Box::new([0; ROOM]));
-        let length = rattle::print(&self.text, &mut ours);
-        assert_eq!(length, print::<true>(&self.text, &mut vec![], &mut theirs));
-        assert!(ours == theirs);
+        let [mut whole, mut by_line, mut in_rust] = [(); 3].map(|()| Box::new([0; ROOM]));
+        assert_eq!(tree.print(&self.text, &mut whole), length);
+        assert_eq!(self.write(tree, &mut by_line), length);
+        assert_eq!(self.write_in_rust(&mut in_rust), length);
+        assert!(*list == *whole && whole == by_line && by_line == in_rust);
+    }
+
+    /// The lines of the list, one call each.
+    fn write(&self, tree: Rattle, out: &mut [u8; ROOM]) -> usize {
+        let mut at = 0;
+        for (letter, numbers) in &self.lines {
+            assert!(tree.write_line(out, at, *letter, numbers));
+            at += 2 + 8 * numbers.len();
+        }
+        at
+    }
+
+    fn write_in_rust(&self, out: &mut [u8; ROOM]) -> usize {
+        let mut list = List::new(out);
+        for (letter, numbers) in &self.lines {
+            list.line(*letter, numbers);
+        }
+        list.length()
     }
 
     /// The text's check, which meets a fault in the last record.
-    pub fn text_alone(&self) -> [Work<'_>; 2] {
-        let (mut out, mut records) = (lent(), vec![]);
-        [
-            Box::new(move || {
-                let refused = rattle::pass(black_box(&self.faulty), None, true, &mut out);
-                assert!(matches!(refused, Err((1, _))));
-            }),
-            Box::new(move || {
-                let refused = parse(black_box(&self.faulty), SLICE, &mut records);
-                assert!(matches!(refused, Err((1, _))));
-            }),
-        ]
+    pub fn text_alone(&self, tree: Rattle) -> Work<'_> {
+        let mut out = lent();
+        Box::new(move || {
+            let refused = tree.pass(black_box(&self.faulty), None, true, &mut out);
+            assert!(matches!(refused, Err((1, _))));
+        })
+    }
+
+    pub fn text_alone_in_rust(&self) -> Work<'_> {
+        let mut records = vec![];
+        Box::new(move || {
+            let refused = parse(black_box(&self.faulty), SLICE, &mut records);
+            assert!(matches!(refused, Err((1, _))));
+        })
     }
 
     /// A pass of the Rust over records that it has parsed already.
@@ -100,10 +129,10 @@ impl Sheet {
         })
     }
 
-    pub fn text_pass(&self) -> Work<'_> {
+    pub fn text_pass(&self, tree: Rattle) -> Work<'_> {
         let mut out = lent();
         Box::new(move || {
-            black_box(black_box(self).rattle(&mut out));
+            black_box(black_box(self).rattle(tree, &mut out));
         })
     }
 
@@ -115,10 +144,10 @@ impl Sheet {
         })
     }
 
-    pub fn list(&self) -> Work<'_> {
+    pub fn list(&self, tree: Rattle) -> Work<'_> {
         let mut out = Box::new([0; ROOM]);
         Box::new(move || {
-            black_box(rattle::print(black_box(&self.text), &mut out));
+            black_box(tree.print(black_box(&self.text), &mut out));
         })
     }
 
@@ -127,6 +156,20 @@ impl Sheet {
         Box::new(move || {
             let text = black_box(&self.text);
             black_box(print::<CHECKED>(text, &mut records, &mut out));
+        })
+    }
+
+    pub fn lines(&self, tree: Rattle) -> Work<'_> {
+        let mut out = Box::new([0; ROOM]);
+        Box::new(move || {
+            black_box(black_box(self).write(tree, &mut out));
+        })
+    }
+
+    pub fn lines_in_rust(&self) -> Work<'_> {
+        let mut out = Box::new([0; ROOM]);
+        Box::new(move || {
+            black_box(black_box(self).write_in_rust(&mut out));
         })
     }
 }

@@ -14,7 +14,15 @@ pub struct List<'a> {
     length: usize,
 }
 
-impl List<'_> {
+impl<'a> List<'a> {
+    pub fn new(out: &'a mut [u8; ROOM]) -> Self {
+        Self { out, length: 0 }
+    }
+
+    pub fn length(&self) -> usize {
+        self.length
+    }
+
     /// Right-justified in eight columns, from the last digit on.
     fn number(&mut self, n: i32) {
         let columns = &mut self.out[self.length..self.length + 8];
@@ -34,7 +42,7 @@ impl List<'_> {
         self.length += 8;
     }
 
-    fn line<'n>(&mut self, letter: u8, numbers: impl IntoIterator<Item = &'n i32>) {
+    pub fn line<'n>(&mut self, letter: u8, numbers: impl IntoIterator<Item = &'n i32>) {
         self.out[self.length] = letter;
         self.length += 1;
         for &n in numbers {
@@ -43,6 +51,22 @@ impl List<'_> {
         self.out[self.length] = b'\n';
         self.length += 1;
     }
+}
+
+/// A letter, and its numbers.
+pub type Line = (u8, Vec<i32>);
+
+/// A list's lines, read back.
+pub fn lines(list: &[u8]) -> Vec<Line> {
+    let numbers = |line: &[u8]| {
+        let fields = line[1..].chunks_exact(8).map(|field| {
+            let text = str::from_utf8(field).expect("a field in ASCII");
+            text.trim_start().parse().expect("a whole number")
+        });
+        (line[0], fields.collect())
+    };
+    let ended = list.strip_suffix(b"\n").expect("a list that ends with LF");
+    ended.split(|&b| b == b'\n').map(numbers).collect()
 }
 
 fn ticks(length: f32) -> i32 {
@@ -78,7 +102,7 @@ pub fn print<const CHECKED: bool>(
     out: &mut [u8; ROOM],
 ) -> usize {
     let mut slice = [0; SLICE];
-    let mut list = List { out, length: 0 };
+    let mut list = List::new(out);
     let done = parse(text, SLICE, records).and_then(|()| laid::<CHECKED>(records, &mut slice));
     match done {
         Err((number, record)) => list.line(b'X', &[i32::from(number), record as i32]),

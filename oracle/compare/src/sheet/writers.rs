@@ -81,21 +81,74 @@ fn draw_number(rng: &mut Rng) -> Number {
     Number { bytes, len, at, z }
 }
 
+/// What a number that is written looks like: its sign, and how many digits it has.
+const SHAPES: [&str; 15] = [
+    "1 digit",
+    "2 digits",
+    "3 digits",
+    "4 digits",
+    "5 digits",
+    "6 digits",
+    "7 digits",
+    "8 digits",
+    "minus and 1 digit",
+    "minus and 2",
+    "minus and 3",
+    "minus and 4",
+    "minus and 5",
+    "minus and 6",
+    "minus and 7",
+];
+
+fn shape(columns: &str) -> usize {
+    let text = columns.trim_start();
+    match text.strip_prefix('-') {
+        Some(digits) => COLUMNS + digits.len() - 1,
+        None => text.len() - 1,
+    }
+}
+
+fn write(c: &Number) -> Written {
+    probe::write_field(c.bytes.clone(), c.len, c.at, c.z)
+}
+
+fn written(c: &Number, columns: Option<&str>) -> Written {
+    Written::of(columns.map(str::as_bytes), c.bytes.clone(), c.len, c.at)
+}
+
+/// Every number that five columns hold, in the midst of marks.
+fn five_columns() -> impl Iterator<Item = Number> {
+    (-9_999..=99_999).map(|z| Number {
+        bytes: vec![b'#'; COLUMNS + 2],
+        len: COLUMNS + 2,
+        at: 1,
+        z,
+    })
+}
+
 fn compare_numbers(t: &mut Tally) {
     let counts = WRITTEN.map(|_| Cell::new(0));
+    let shapes = SHAPES.map(|_| Cell::new(0));
+    let theirs = |c: &Number| {
+        let columns = reference::columns(c.z);
+        note_written(&counts, columns.is_some(), c.len, c.at, COLUMNS);
+        let written = written(c, columns.as_deref());
+        if let Some(columns) = columns {
+            note(&shapes[shape(&columns)], written.written != 0);
+        }
+        written
+    };
     t.drawn(
         "field_write",
         300,
         |v| draw_number(&mut v.rng),
-        |c| probe::write_field(c.bytes.clone(), c.len, c.at, c.z),
-        |c| {
-            let text = reference::columns(c.z);
-            let text = text.as_ref().map(String::as_bytes);
-            note_written(&counts, text.is_some(), c.len, c.at, COLUMNS);
-            Written::of(text, c.bytes.clone(), c.len, c.at)
-        },
+        write,
+        theirs,
     );
     show(t, "field_write", &WRITTEN, &counts);
+    show(t, "field_write", &SHAPES, &shapes);
+    let theirs = |c: &Number| written(c, reference::columns(c.z).as_deref());
+    t.each("field_write, five columns", five_columns(), write, theirs);
 }
 
 struct Line {

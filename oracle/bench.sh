@@ -1,5 +1,15 @@
 # What oracle/bench builds and measures besides times. To be sourced under set -euo pipefail.
 
+need_binutils() {
+    local tool
+    for tool in size nm objcopy; do
+        if ! command -v "$tool" >/dev/null 2>&1; then
+            echo "skipped: the timing (no $tool here: it comes with gcc's binutils)"
+            exit 3
+        fi
+    done
+}
+
 timed_probes="probe_sheet probe_listing probe_records"
 
 # In the folder of a tree: the probes that are timed, and what a customer links or runs.

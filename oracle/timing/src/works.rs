@@ -62,7 +62,7 @@ impl Sheet {
         pass::<CHECKED>(records, memory, memory.is_none(), out).expect("a good sheet")
     }
 
-    /// Both sides have to do the same, or their times say nothing.
+    /// All have to do the same, or their times say nothing.
     fn agree(&self, tree: Rattle, list: &[u8; ROOM], length: usize) {
         let mut outs = [lent(), lent(), lent()];
         let [a, b, c] = &mut outs;

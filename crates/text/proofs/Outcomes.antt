@@ -7,7 +7,7 @@ use lib.IntN.{ℤ, natAbs}
 use lib.ListN.{length, take, drop}
 use lib.Seq.{sets}
 use borrow.Author.Tests.{le-leb, lt-leb}
-use Rattle.text.specs.Fields.{columns, text, field, fieldAt, negative, hasText, writtenAt}
+use Rattle.text.specs.Fields.{columns, field, fieldAt, negative, hasText, writtenAt}
 use Rattle.text.specs.declared.Field.{Field}
 use Rattle.text.specs.declared.Field.the-variants.{Wrong}
 

@@ -4,15 +4,15 @@ use mathlib.Core.Path.{_≡_, refl, ap, sym, _∙_}
 use mathlib.Core.List.{List, [], _∷_}
 use mathlib.Core.Bool.{Bool, true, false, cond}
 use native.Mathlib.Omega.{arith}
-use native.Mathlib.Nat.{pow-suc, div-eq-of-lt, div-one, div-le-self, pow-le-pow-right}
-use borrow.Author.Tests.{lt-ltb, le-ltb, le-leb, lt-leb, eq-eqb, ne-eqb, eqb-true, leb-false, ltb-true, ltb-false}
-use lib.Dec.{leb, ltb, eqb, lit<}
+use native.Mathlib.Nat.{pow-suc, div-eq-of-lt, div-one, div-le-self}
+use borrow.Author.Tests.{lt-ltb, le-ltb, le-leb, eq-eqb, ne-eqb, eqb-true, leb-true, leb-false, ltb-true, ltb-false}
+use lib.Dec.{leb, ltb, eqb}
 use lib.ListN.{length, take, drop}
 use lib.IntN.{ℤ, pos, negsuc, negℤ, natAbs}
 use mathlib.Core.Logic.{_⊎_, inl, inr}
 use Rattle.text.specs.Fields.{shown, column, columns, text, hasText, grow, digitsFrom, same, blank, numberOf, field, fieldAt}
 use Rattle.text.specs.declared.Field.the-variants.{Blank, Number, Wrong}
-use Rattle.text.proofs.Columns.{next-power, minus-at, blank-at}
+use Rattle.text.proofs.Columns.{tens-order, next-power, not-shown, digit-at, minus-at, blank-at, no-digit-at}
 
 -- ---- equality of lists, as a test
 
@@ -54,21 +54,6 @@ grow-other : (acc b : ℕ) → b < 48 → grow acc b ≡ acc
 unfolding grow
 grow-other acc b h = simp (lt-ltb b 48 h) (cond-same (ltb 9999999 acc) acc)
 
-column-shown : (neg : Bool) (n k : ℕ) → shown n (10 ^ k) ≡ true → (P : ℕ → Type 0) → P (48 + n / 10 ^ k % 10) → P (column neg n k)
-unfolding column
-column-shown neg n k e P p = rw e p
-
-column-hidden : (neg : Bool) (n k : ℕ) → shown n (10 ^ k) ≡ false → (P : ℕ → Type 0) → P (cond neg (cond (shown n (10 ^ k / 10)) 45 32) 32) → P (column neg n k)
-unfolding column
-column-hidden neg n k e P p = rw e p
-
--- a column left of the digits is no digit
-no-digit : (neg : Bool) (t : Bool) → cond neg (cond t 45 32) 32 < 48
-no-digit true true = omega arith
-no-digit true false = omega arith
-no-digit false true = omega arith
-no-digit false false = omega arith
-
 -- the digits so far, and one column more
 grow-column : (neg : Bool) (n k : ℕ) → n < 100000000 → grow (n / 10 ^ suc k) (column neg n k) ≡ n / 10 ^ k
 grow-column neg n k h = go (shown n (10 ^ k)) refl
@@ -77,12 +62,11 @@ grow-column neg n k h = go (shown n (10 ^ k)) refl
     small = omega (arith, div-le-self n (10 ^ k))
 
     go : (b : Bool) → shown n (10 ^ k) ≡ b → grow (n / 10 ^ suc k) (column neg n k) ≡ n / 10 ^ k
-    go true e = column-shown neg n k e (λ (c : ℕ). grow (n / 10 ^ suc k) c ≡ n / 10 ^ k) (grow-digit (n / 10 ^ suc k) (n / 10 ^ k) (next-power n k) small)
+    go true e = rw (digit-at neg n k (leb-true (10 ^ k) (max n 1) e)) (grow-digit (n / 10 ^ suc k) (n / 10 ^ k) (next-power n k) small)
     go false e =
         let l : max n 1 < 10 ^ k = leb-false (10 ^ k) (max n 1) e in
         let z : n / 10 ^ k ≡ 0 = div-eq-of-lt (omega arith) in
-        column-hidden neg n k e (λ (c : ℕ). grow (n / 10 ^ suc k) c ≡ n / 10 ^ k)
-        (grow-other (n / 10 ^ suc k) _ (no-digit neg (shown n (10 ^ k / 10))) ∙ omega (arith, next-power n k, z))
+        grow-other (n / 10 ^ suc k) (column neg n k) (no-digit-at neg n k e) ∙ omega (arith, next-power n k, z)
 
 text-digits : (neg : Bool) (n k : ℕ) → n < 100000000 → digitsFrom (n / 10 ^ k) (columns neg n k) ≡ n
 unfolding digitsFrom columns
@@ -97,8 +81,7 @@ digits-of-text neg n h =
 -- ---- a number's text is read as the number
 
 last-digit : (neg : Bool) (n : ℕ) → column neg n 0 ≡ 48 + n % 10
-unfolding column
-last-digit neg n = simp (le-leb 1 (max n 1) (omega arith), div-one)
+last-digit neg n = digit-at neg n 0 (omega arith) ∙ simp div-one
 
 blank-cons : (x : ℕ) (xs : List ℕ) → blank xs ≡ false → blank (x ∷ xs) ≡ false
 unfolding blank
@@ -126,9 +109,6 @@ differ-here : (x y : ℕ) (xs ys : List ℕ) → (x ≡ y → ⊥) → same (x �
 unfolding same
 differ-here x y xs ys h = simp (ne-eqb x y h)
 
-hidden : (n p : ℕ) → 1 ≤ n → n < p → shown n p ≡ false
-hidden n p h l = lt-leb p (max n 1) (omega arith)
-
 sign-by : (n k : ℕ) (b : Bool) → shown n (10 ^ k) ≡ false → shown n (10 ^ k / 10) ≡ b → (xs ys : List ℕ) → (b ≡ false → same xs ys ≡ false)
     → same (column true n k ∷ xs) (column false n k ∷ ys) ≡ false
 sign-by n k true e s xs ys h =
@@ -141,7 +121,7 @@ unfolding columns
 sign-differs n zero h l = absurd (omega arith)
 sign-differs n (suc k) h l =
     let p : 10 ^ suc k ≡ 10 ^ k * 10 = pow-suc 10 k in
-    sign-by n (suc k) (shown n (10 ^ suc k / 10)) (hidden n (10 ^ suc k) h l) refl (columns true n (suc k)) (columns false n (suc k))
+    sign-by n (suc k) (shown n (10 ^ suc k / 10)) (not-shown n (suc k) (omega arith) l) refl (columns true n (suc k)) (columns false n (suc k))
     (λ s. sign-differs n k h (omega (arith, p, leb-false (10 ^ suc k / 10) (max n 1) s)))
 
 -- ---- what is read as a number is its text, and a number's text is read as the number
@@ -176,7 +156,7 @@ signs-alike : (n k : ℕ) → 10000000 ≤ n → k ≤ 8 → columns true n k �
 unfolding columns column
 signs-alike n zero h l = refl
 signs-alike n (suc k) h l =
-    let p : 10 ^ k ≤ 10 ^ 7 = pow-le-pow-right {n = 10} (lit< tt) {i = k} {j = 7} (omega arith) in
+    let p : 10 ^ k ≤ 10 ^ 7 = tens-order k 7 (omega arith) in
     let q : 10 ^ 7 ≡ 10000000 = refl in
     rw (le-leb (10 ^ k) (max n 1) (omega arith), signs-alike n k h (omega arith))
 

@@ -4,14 +4,14 @@ use mathlib.Core.Path.{_≡_, refl, ap, _∙_}
 use mathlib.Core.List.{List, _∷_}
 use native.Mathlib.Omega.{arith}
 use native.Mathlib.Numerals.{add-one}
-use native.Mathlib.Nat.{pow-suc, pow-le-pow-right}
+use native.Mathlib.Nat.{pow-suc}
 use borrow.Author.Tests.{lt-ltb, le-ltb, eq-eqb, ne-eqb}
-use lib.Dec.{lit<}
 use lib.ListN.{length, getD, drop, drop-of-length-le}
 use lib.Seq.{drop-cons}
 use Rattle.text.specs.Implementation.Scanning.{none, valueFrom, zeroOnly, unsigned, plus, minus, signed, scan}
 use Rattle.text.specs.declared.Field.{Field}
 use Rattle.text.specs.declared.Field.the-variants.{Blank}
+use Rattle.text.proofs.Columns.{tens-order}
 
 from : (f : List ℕ) (i : ℕ) → i < length f → drop i f ≡ getD f i 0 ∷ drop (i + 1) f
 from f i h = drop-cons f i 0 h ∙ rw add-one
@@ -24,10 +24,10 @@ few acc d i h l =
     omega (arith, h, l, p)
 
 pub seven : (i : ℕ) → i < 8 → 10 ^ i ≤ 10000000
-seven i h = let p : 10 ^ i ≤ 10 ^ 7 = pow-le-pow-right {n = 10} (lit< tt) {i = i} {j = 7} (omega arith) in let q : 10 ^ 7 ≡ 10000000 = refl in omega (arith, p, q)
+seven i h = let q : 10 ^ 7 ≡ 10000000 = refl in omega (arith, tens-order i 7 (omega arith), q)
 
 pub eight : (i : ℕ) → i ≤ 8 → 10 ^ i ≤ 100000000
-eight i h = let p : 10 ^ i ≤ 10 ^ 8 = pow-le-pow-right {n = 10} (lit< tt) {i = i} {j = 8} (omega arith) in let q : 10 ^ 8 ≡ 100000000 = refl in omega (arith, p, q)
+eight i h = let q : 10 ^ 8 ≡ 100000000 = refl in omega (arith, tens-order i 8 (omega arith), q)
 
 module _ (f : List ℕ) (acc i r : ℕ) (inv : valueFrom acc (drop i f) ≡ r) where
   pub value-end : length f ≤ i → acc ≡ r

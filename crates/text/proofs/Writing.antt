@@ -4,14 +4,14 @@ use mathlib.Core.Path.{_≡_, refl, ap, sym, _∙_, subst}
 use mathlib.Core.List.{List, [], _∷_, _++_}
 use mathlib.Core.Bool.{Bool, true, false, _&&_, true≢false}
 use native.Mathlib.Omega.{arith}
-use native.Mathlib.Nat.{pow-suc, pow-le-pow-right, div-one, div-le-self, div-lt-iff-lt-mul}
+use native.Mathlib.Nat.{pow-suc, div-one, div-le-self, div-lt-iff-lt-mul}
 use borrow.Author.Tests.{le-leb, lt-ltb, le-ltb, ltb-true, ltb-false}
-use lib.Dec.{lit<, ltb}
+use lib.Dec.{ltb}
 use lib.ListN.{length, take, set}
 use lib.Seq.{sets, set-set, set-comm}
 use Rattle.text.specs.Fields.{shown, column, columns}
 use Rattle.text.specs.Implementation.Writing.{spaces, pairPut, firstPut, Digits, DigitsPut}
-use Rattle.text.proofs.Columns.{ten-pos, below-eight, next-power, reaches, not-shown, digit-at, minus-at, blank-at, space-at, columns-length}
+use Rattle.text.proofs.Columns.{tens-order, ten-pos, below-eight, next-power, reaches, not-shown, digit-at, minus-at, blank-at, space-at, columns-length}
 
 -- ---- stores
 -- one before the others
@@ -41,12 +41,6 @@ column-more : (neg : Bool) (n k i j v : ℕ) (out o : List ℕ) → i ≡ suc j 
 unfolding columns
 column-more neg n k i j v out o e w c = rw (w, e, c) (set-first (columns neg n k) out j (suc j) v (omega arith))
 
--- ---- put_spaces
-spaces-length : (k : ℕ) → length (spaces k) ≡ k
-unfolding spaces
-spaces-length zero = refl
-spaces-length (suc k) = ap suc (spaces-length k)
-
 -- ---- put_digits
 -- what the loop has come to: k digits from i on, what is left of n, and that it has a digit more
 pub record DigitsSoFar (n : ℕ) (out : List ℕ) (i k rest : ℕ) (out′ : List ℕ) : Type 0 where
@@ -64,7 +58,7 @@ module _ {n : ℕ} {out : List ℕ} {i k rest : ℕ} {out′ : List ℕ} (d : Di
   pub at-most : rest ≤ n
   at-most = rw (d .quotient) (div-le-self n (10 ^ k))
 
-  -- the next column but one has a digit too
+  -- where two are left, the column after the next has a digit too
   next-more : 9 < rest → 10 ^ suc k ≤ max n 1
   next-more m = omega (arith, reaches n (10 ^ suc k) (omega (arith, next-power n k, d .quotient)))
 
@@ -128,6 +122,11 @@ module _ {n : ℕ} {out : List ℕ} {i k rest : ℕ} {out′ : List ℕ} (d : Di
   all-done r o end h l e m w = subst (λ (a : ℕ × List ℕ). DigitsPut n out end (a .0) (a .1)) (sym w) (first-done end h l e m (ltb rest 10) refl)
 
 -- ---- over spaces
+spaces-length : (k : ℕ) → length (spaces k) ≡ k
+unfolding spaces
+spaces-length zero = refl
+spaces-length (suc k) = ap suc (spaces-length k)
+
 -- where the columns left of the last k are spaces, only these k are written
 over-spaces : (neg : Bool) (n m k : ℕ) → ((j : ℕ) → k ≤ j → j < m + k → column neg n j ≡ 32) → take m (spaces (m + k)) ++ columns neg n k ≡ columns neg n (m + k)
 unfolding columns spaces
@@ -141,8 +140,7 @@ over-spaces neg n (suc m) k h =
 module _ {n k : ℕ} (d : Digits n k) where
   hidden : (j : ℕ) → k ≤ j → shown n (10 ^ j) ≡ false
   hidden j h =
-      let p : 10 ^ k ≤ 10 ^ j = pow-le-pow-right {n = 10} (lit< tt) {i = k} {j = j} h in
-      not-shown n j (omega (arith, d .some)) (omega (arith, p, d .no-more))
+      not-shown n j (omega (arith, d .some)) (omega (arith, tens-order k j h, d .no-more))
 
   -- left of the digits are spaces
   plain-left : (j : ℕ) → k ≤ j → column false n j ≡ 32

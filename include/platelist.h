@@ -36,7 +36,8 @@ extern "C" {
 #define PLATELIST_RECORDS 512
 #define PLATELIST_TEXT 50177
 
-/* A plate's edges: left, top, right, bottom. */
+/* A plate's edges: left, top, right, bottom. The plate is the smallest rectangle around the frames of
+ * all controls, 0 0 0 0 where there is no control; it need not touch 0 0. */
 #define PLATELIST_EDGES 4
 
 /* A control (a W) takes so many places: its frame's edges, then its own. PLATELIST_PLACES are enough
@@ -80,7 +81,7 @@ enum {
  *   text, length   the sheet
  *   places, room   W number k, from 0, gets places 8k to 8k + 7: its frame, then itself, each left,
  *                  top, right, bottom; every other place stays as it was
- *   plate          the plate's edges
+ *   plate          the plate's edges, those of the pass that is answered
  *   widths, cols, heights, rows
  *                  the memory of the last pass; with no G all zeros and counts 0
  *   record         the record at fault, from 1; 0 where the sheet is accepted

@@ -103,7 +103,7 @@ lt-self (inf false) = refl
 lt-self (fin true m e) = not-lt (m * up e * down e) (m * up e * down e) (omega arith)
 lt-self (fin false m e) = not-lt (m * up e * down e) (m * up e * down e) (omega arith)
 
-number-kept : (a : Float) → Number a → ne a a ≡ false
+pub number-kept : (a : Float) → Number a → ne a a ≡ false
 number-kept a p = go (ne a a) (differs-from-itself a)
   where
     go : (t : Bool) → (T t → a ≡ nan) → t ≡ false

@@ -1,5 +1,5 @@
 -- Laws of the refusals: what is finite, what a fault of 0 says of the parts, and that edges within the limit have none. Assumes nothing.
-use mathlib.Core.Path.{_≡_, refl, sym, _∙_}
+use mathlib.Core.Path.{_≡_, refl, sym, _∙_, subst}
 use mathlib.Core.Logic.{_⊎_, inl, inr}
 use Prim.Native.Nat.{ℕ, _*_, _<_, _≤_, zero, suc}
 use native.Mathlib.Nat.{sub-self, mul-pos}
@@ -13,9 +13,13 @@ use lib.Ieee.{Float, nan, inf, fin, binary32, ofBits, up, down, round, sum, add,
 use lib.Ieee.Fits.{down-pos}
 use lib.Ieee.Scale.{round-same}
 use Rattle.emath.specs.Rectangles.{zeroF}
-use Rattle.emath.specs.Domain.{finite, within, bothOf, edgesOf, insideOut}
+use Rattle.emath.specs.Domain.{finite, limit, within, bothOf, edgesOf, insideOut}
 use Rattle.emath.specs.Refusals.{when, lesser, least, orElse, lengthFault, pairFault, edgesFault, rectFault, outside}
+use Rattle.emath.specs.Implementation.NoNaN.{IsNumber, Numbers}
 use Rattle.emath.proofs.Tests.{both, bools, not-lt, T-of}
+use Rattle.emath.proofs.OrderLaws.{Number, nan-or-number}
+use Rattle.emath.proofs.MinMax.{number-kept}
+use Rattle.emath.proofs.Edges.{within-high}
 use Rattle.emath.specs.declared.Rect.{Rect}
 
 nought : (s : Bool) (c : ℕ) → 0 < c → round binary32 (s && false) 0 c ≡ fin false 0 (pos 0)
@@ -169,6 +173,18 @@ edges-within r h =
     let b = both (within (r .top)) (within (r .right) && within (r .bottom)) (a .1) in
     let d = both (within (r .right)) (within (r .bottom)) (b .1) in
     record { left = T-of (a .0); top = T-of (b .0); right = T-of (d .0); bottom = T-of (d .1) }
+
+-- what is within the limit is no NaN
+no-nan : (x : Float) → T (within x) → IsNumber x
+unfolding le
+no-nan x t = go (nan-or-number x)
+  where
+    go : (x ≡ nan) ⊎ Number x → IsNumber x
+    go (inl e) = absurd (subst (λ (y : Float). T (le y limit)) e (within-high x t))
+    go (inr n) = number-kept x n
+
+pub edges-numbers : (r : Rect) → edgesFault r ≡ 0 → Numbers r
+edges-numbers r h = let w = edges-within r h in record { left = no-nan _ (w .left); top = no-nan _ (w .top); right = no-nan _ (w .right); bottom = no-nan _ (w .bottom) }
 
 pub rect-none : (r : Rect) → rectFault r ≡ 0 → (edgesFault r ≡ 0) × (insideOut r ≡ false)
 unfolding rectFault least

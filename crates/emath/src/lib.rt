@@ -7,6 +7,7 @@ pub mod gui_rounding;
 pub mod num;
 pub mod numbers;
 mod rects;
+pub mod unions;
 
 pub struct Vec2 {
     pub x: f32,

@@ -17,8 +17,8 @@ use Rattle.sheet.specs.Ticks.{inTicks}
 use Rattle.sheet.specs.Texts.{sheetIn}
 use Rattle.sheet.specs.Slices.{edges, laidNumber, laidRecord, LaidOut, afterCheck, laid, Returns}
 use Rattle.sheet.specs.declared.Passed.{Passed}
-use Rattle.pass_laws.proofs.TextTicks.{text-whole}
-use Rattle.pass_laws.proofs.WholeEdges.{zero-rect, whole-pass}
+use Rattle.sheet.proofs.Plates.{zero-rect}
+use Rattle.pass_laws.proofs.WholeEdges.{whole-pass}
 use Rattle.listing.specs.Lists.{settledFrom, settled}
 use Rattle.embed.specs.Calls.{Exported, exported}
 
@@ -28,7 +28,7 @@ laid-plate text known m sizing out = go (checked text (length out))
   where
     go : (c : Checked) → WholeRect 5 (afterCheck c text known m sizing out .outcome .plate)
     go (checked-of.Refused n at) = zero-rect 5
-    go (checked-of.Accepted r w) = whole-pass 5 (omega arith) (sheetIn text) (text-whole text) known m sizing .plate
+    go (checked-of.Accepted r w) = whole-pass 5 (omega arith) (sheetIn text) known m sizing .plate
 
 pub settled-plate : (text : List ℕ) (out : List ℤ) → WholeRect 5 (settled text out .outcome .plate)
 unfolding settled settledFrom

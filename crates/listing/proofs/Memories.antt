@@ -48,7 +48,7 @@ given-back : (m : Memory) (r : Ran) → outcomeOf false m r .memory ≡ m
 unfolding outcomeOf remembered
 given-back m r = go (eqb (r .number) 0)
   where
-    go : (b : Bool) → cond b (record { number = 0; at = 0; cells = r .cells; plate = plateOf r; memory = remembered false m (r .placer) .memory; save = remembered false m (r .placer) .save }) (refusedAt (r .number) (r .at) (r .cells) m) .memory ≡ m
+    go : (b : Bool) → cond b (record { number = 0; at = 0; cells = r .cells; plate = plateOf (r .cells); memory = remembered false m (r .placer) .memory; save = remembered false m (r .placer) .save }) (refusedAt (r .number) (r .at) (r .cells) m) .memory ≡ m
     go true = refl
     go false = refl
 

@@ -106,7 +106,7 @@ outcome-few : (grid : Bool) (m : Memory) (r : Ran) (n : ℕ) → r .at ≤ n →
 unfolding outcomeOf
 outcome-few grid m r n h = go (eqb (r .number) 0)
   where
-    go : (b : Bool) → cond b (record { number = 0; at = 0; cells = r .cells; plate = plateOf r; memory = remembered grid m (r .placer) .memory; save = remembered grid m (r .placer) .save }) (refusedAt (r .number) (r .at) (r .cells) m) .at ≤ n
+    go : (b : Bool) → cond b (record { number = 0; at = 0; cells = r .cells; plate = plateOf (r .cells); memory = remembered grid m (r .placer) .memory; save = remembered grid m (r .placer) .save }) (refusedAt (r .number) (r .at) (r .cells) m) .at ≤ n
     go true = omega arith
     go false = h
 

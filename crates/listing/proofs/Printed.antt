@@ -97,7 +97,7 @@ module _ (text : List ℕ) (known : Bool) (m : Memory) (sizing : Bool) (out : Li
         go : (l : Laid) → p .laid ≡ l → printable l p
         go Accepted e =
             let s = shown text known m sizing out p exit c e in
-            (subst (WholeRect 5) (sym (s .plate)) (whole-pass 5 (omega arith) (sheetIn text) (text-whole text) known m sizing .plate), subst WholeMemory (sym (s .memory)) (f (s .number)))
+            (subst (WholeRect 5) (sym (s .plate)) (whole-pass 5 (omega arith) (sheetIn text) known m sizing .plate), subst WholeMemory (sym (s .memory)) (f (s .number)))
         go (Refused n at) e = refused-at n at e
 
     module _ (full : length out ≡ 4096) (P : Put) (start : P .at ≡ 0) (room : length (P .out) ≡ 40802) where
@@ -110,7 +110,7 @@ module _ (text : List ℕ) (known : Bool) (m : Memory) (sizing : Bool) (out : Li
           let b = pass-all 5 (sheetIn text) known m sizing (s .number) in
           let d = sheet-slices.pass-few 5 (sheetIn text) known m sizing in
           let t = v .fits in
-          let i = whole-pass 5 (omega arith) (sheetIn text) (text-whole text) known m sizing in
+          let i = whole-pass 5 (omega arith) (sheetIn text) known m sizing in
           rw (s .plate, s .memory)
           (written.put-accepted text exit (o .plate) (o .memory) P (o .cells)
           (record { well = v .steps; from = omega arith; few = omega (arith, few-records text); others = s .others; there = s .slice; whole = i .cells; all = omega (arith, a, b, d); room = omega (arith, a, d, t, start, room) })

@@ -1,7 +1,7 @@
 -- A pass in whole steps, and what larger controls do to it.
 pub mod Model
 pub mod Lists
-pub mod Plates
+pub mod Openings
 pub mod Halves
 pub mod Heights
 pub mod Settled

@@ -16,6 +16,7 @@ pub mod FurtherPasses
 mod CellRuns
 -- Whole steps.
 pub mod WholeTops
+pub mod SmallestPlates
 pub mod WholeEdges
 pub mod TextTicks
 -- No rectangle is inside out, and each W is its calls.

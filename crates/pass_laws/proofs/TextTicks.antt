@@ -23,7 +23,7 @@ use Rattle.records.specs.declared.Record.{Record}
 use Rattle.records.specs.declared.Record.the-variants as record-of
 use Rattle.pass_laws.specs.WholeSheets.{WholeSteps, WholeSheet}
 use Rattle.sheet.specs.Texts.{stepsOf, sheetIn}
-use Rattle.pass_laws.proofs.WholeEdges.{zero-edge}
+use Rattle.sheet.proofs.Plates.{zero-edge}
 
 points-edge : (z : ℤ) → natAbs z ≤ 2097152 → Edge 5 (points z)
 unfolding points

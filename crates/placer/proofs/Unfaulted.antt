@@ -8,13 +8,16 @@ use native.Mathlib.Omega.{arith}
 use lib.Dec.{T, leb, nleb→lt}
 use lib.ListN.{length}
 use Rattle.emath.specs.Refusals.{when, lesser, least, orElse, outside}
-use Rattle.emath.proofs.Refusals.{lesser-none, lesser-zero, zero-lesser}
+use Rattle.emath.specs.Implementation.NoNaN.{Numbers}
+use Rattle.emath.proofs.Refusals.{lesser-none, lesser-zero, zero-lesser, rect-none, edges-numbers}
 use Rattle.region.specs.Refusals.{regionFault}
+use Rattle.region.proofs.Answers.{region-none}
 use Rattle.grid.specs.Refusals.{gridFault, directionFault}
 use Rattle.grid.proofs.Unfaulted.{advance-fault, end-row-fault}
 use Rattle.placer.specs.Rules.{withRegion, setCursor, expandToIncludeRect, movedPast, advanceAfterRects, endRow}
 use Rattle.placer.specs.Refusals.{gridPart, placerFault, advanceFault, placerAnswer, changedPlacer}
 use Rattle.placer.specs.Implementation.Lent.{raisedPart, pastPart}
+use Rattle.placer.proofs.Answers.{placer-region}
 use Rattle.placer.proofs.Parts.{ended, row-ended}
 use Rattle.emath.specs.declared.Rect.{Rect}
 use Rattle.emath.specs.declared.Vec2.{Vec2}
@@ -29,6 +32,12 @@ module _ (p : Placer) (none : placerFault p ≡ 0) where
   pub region-fault : (r : Region) → placerFault (withRegion p r) ≡ regionFault (p .layout .«main_dir») r
   unfolding placerFault least gridPart
   region-fault r = let h : cond (p .«has_grid») (least (gridFault (p .grid) ∷ directionFault (p .layout .«main_dir») ∷ [])) 0 ≡ 0 = grid-none in rw h (lesser-zero (regionFault (p .layout .«main_dir») r))
+
+  -- its rectangles have no NaN
+  pub region-numbers : Numbers (p .region .«min_rect») × Numbers (p .region .«max_rect»)
+  region-numbers =
+      let r = region-none (p .layout .«main_dir») (p .region) (placer-region p none) in
+      (edges-numbers _ (rect-none _ (r .0) .0), edges-numbers _ (rect-none _ (r .1) .0))
 
   -- what a call answers, with its new placer's number known
   pub changed-is : (before n : ℕ) (new : Placer) → placerFault new ≡ n → changedPlacer (least (placerFault p ∷ before ∷ [])) p new ≡ placerAnswer (orElse before (outside n)) p new

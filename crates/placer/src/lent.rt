@@ -20,6 +20,7 @@ ghost use mathlib.Core.Path.{_≡_};
 ghost use mathlib.Core.List.{List};
 ghost use lib.ListN.{length};
 ghost use lib.Ieee.{Float};
+ghost use Rattle.emath.specs.Implementation.NoNaN.{Numbers};
 ghost use Rattle.emath.specs.Steps.{tick};
 ghost use Rattle.emath.specs.declared.Rect.{Rect as Frame};
 ghost use Rattle.emath.specs.declared.Vec2.{Vec2 as Spacing};
@@ -128,7 +129,7 @@ fn cursor_past(
     )
 }
 
-// The region after `advance_after_rects`.
+// The region after `advance_after_rects`, where the one before has no fault, and so no NaN.
 pub fn region_past(
     placer: PlacerSettings,
     state: PassState,
@@ -137,6 +138,7 @@ pub fn region_past(
     widget_rect: Rect,
     item_spacing: Vec2,
 ) -> Region
+    requires { ⌜ Numbers (state .region .«min_rect») × Numbers (state .region .«max_rect») ⌝ }
     ensures { λ r. ⌜ ((ph ws hs : List Float) → r ≡ advanceAfterRects (placerOf placer state (now («prev_widths» .entry)) ph ws hs) «frame_rect» «widget_rect» «item_spacing» .region) ⌝ }
 {
     let c = cursor_past(
@@ -147,7 +149,7 @@ pub fn region_past(
         widget_rect,
         item_spacing,
     );
-    regions::expand_to_include_rect(regions::with_cursor(state.region, c), frame_rect)
+    regions::expand_with_rect(regions::with_cursor(state.region, c), frame_rect)
 }
 
 fn raised_fault(

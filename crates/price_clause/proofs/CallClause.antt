@@ -11,6 +11,7 @@ use lib.Seq.{drop-at}
 use lib.Ieee.{Float}
 use Rattle.emath.specs.Steps.{val, Edge}
 use Rattle.emath.specs.declared.Rect.{Rect}
+use Rattle.region.specs.Refusals.{zeroRect}
 use Rattle.region.specs.Steps.{WholeRect}
 use Rattle.grid.specs.declared.Memory.{Memory}
 use Rattle.records.specs.Sheets.{checked}
@@ -20,18 +21,20 @@ use Rattle.records.proofs.Checks.{some-number}
 use Rattle.sheet.specs.declared.Laid.the-variants.{Accepted}
 use Rattle.sheet.specs.declared.Passed.{Passed}
 use Rattle.sheet.specs.Pass.{Cell, Outcome, pass}
-use Rattle.sheet.specs.Ticks.{ticks, inTicks}
+use Rattle.sheet.specs.Ticks.{Ticks, ticks, inTicks}
 use Rattle.sheet.specs.Texts.{sheetIn}
 use Rattle.sheet.specs.Slices.{eight, written, passedOf, afterCheck, laid, Called, controls}
 use Rattle.sheet.proofs.Ticking.{ticks-are}
-use Rattle.sheet.proofs.Slices.{written-length, laid-length, slice-is}
+use Rattle.sheet.proofs.Slices.{written-length, laid-length, slice-is, pass-few}
 use Rattle.sheet.proofs.Shown.{Shown, shown, pass-all, no-number}
 use Rattle.sheet.specs.Passes.{passes}
-use Rattle.price_clause.specs.Sheets.{FrameNoLess}
+use Rattle.price_clause.specs.Sheets.{FrameNoLess, firstFrame}
+use Rattle.pass_laws.specs.EachCell.{EachCell}
+use Rattle.pass_laws.specs.Plates.{Holds, HoldsFrames}
 use Rattle.pass_laws.specs.WholeCells.{WholeCells, more}
 use Rattle.price_clause.specs.PriceClause.{NoLess, OfText}
-use Rattle.price_clause.specs.CallClause.{place, frameIn, widgetIn, InTurn, NoLessIn, SecondAgain, IsTicks, RectIsTicks, WrittenWhole, CallClause}
-use Rattle.pass_laws.proofs.WholeEdges.{zero-rect}
+use Rattle.price_clause.specs.CallClause.{place, frameIn, widgetIn, InTurn, NoLessIn, SmallestIn, SecondAgain, IsTicks, RectIsTicks, WrittenWhole, CallClause}
+use Rattle.sheet.proofs.Plates.{zero-rect}
 use Rattle.price_clause.proofs.PriceClause.{price-clause}
 
 -- ---- the frames in two slices
@@ -50,6 +53,27 @@ frames-in [] [] xs ys Forall₂·nil k l = absurd (omega arith)
 frames-in (c ∷ cs) (d ∷ ds) xs ys (Forall₂·cons r rs) zero l = r
 frames-in (c ∷ cs) (d ∷ ds) xs ys (Forall₂·cons r rs) (suc k) l =
     rw (next-frame c (written cs ++ xs) k, next-frame d (written ds ++ ys) k) (frames-in cs ds xs ys rs k (omega arith))
+
+-- ---- the first frame, and rectangles around all of them
+first-in : (cs : List Cell) (xs : List ℤ) → 0 < length cs → frameIn (written cs ++ xs) 0 ≡ firstFrame 5 cs
+unfolding written
+first-in [] xs some = absurd (omega arith)
+first-in (c ∷ cs) xs some = refl
+
+as-many : {R : Cell → Cell → Type 0} {cs ds : List Cell} → Forall₂ R cs ds → length cs ≡ length ds
+as-many Forall₂·nil = refl
+as-many (Forall₂·cons r rs) = omega (arith, as-many rs)
+
+holds-in : (t : Ticks) (cs : List Cell) (xs : List ℤ) → HoldsFrames 5 t cs → (k : ℕ) → k < length cs → Holds t (frameIn (written cs ++ xs) k)
+unfolding written
+holds-in t [] xs h k l = absurd (omega arith)
+holds-in t (c ∷ cs) xs (EachCell.more h rest) zero l = h
+holds-in t (c ∷ cs) xs (EachCell.more h rest) (suc k) l = rw (next-frame c (written cs ++ xs) k) (holds-in t cs xs rest k (omega arith))
+
+in-holds : (t : Ticks) (cs : List Cell) (xs : List ℤ) → ((k : ℕ) → k < length cs → Holds t (frameIn (written cs ++ xs) k)) → HoldsFrames 5 t cs
+unfolding written
+in-holds t [] xs h = EachCell.none
+in-holds t (c ∷ cs) xs h = EachCell.more (h 0 (omega arith)) (in-holds t cs xs (λ k l. subst (Holds t) (next-frame c (written cs ++ xs) k) (h (suc k) (omega arith))))
 
 -- ---- a rectangle in whole ticks is what its places say
 is-ticks : (x : Float) → Edge 5 x → IsTicks x (ticks 5 x)
@@ -76,6 +100,12 @@ no-less-in : (a b : List ℕ) (known known′ : Bool) (m m′ : Memory) (sizing 
 no-less-in a b known known′ m m′ sizing sizing′ p q exit exit′ s t n = record {
   frames = λ k l. rw (s .slice, t .slice) (frames-in _ _ (s .others) (t .others) (n .frames) k (omega (arith, l, pass-all 5 (sheetIn a) known m sizing (s .number))));
   plate = rw (s .plate, t .plate) (n .plate);
+  holds = rw (s .plate, t .plate) (n .holds);
+  corner = λ some.
+      (let l : 0 < length (pass 5 (sheetIn a) known m sizing .cells) = omega (arith, some, pass-all 5 (sheetIn a) known m sizing (s .number)) in
+      let e = ap (λ (o : List ℤ). frameIn o 0) (s .slice) ∙ first-in _ (s .others) l in
+      let f = ap (λ (o : List ℤ). frameIn o 0) (t .slice) ∙ first-in _ (t .others) (rw (as-many (n .frames)) at l) in
+      rw (s .plate, t .plate, e, f) (n .corner l));
 }
 
 of-text : (text : List ℕ) → OfText (sheetIn text)
@@ -149,6 +179,27 @@ module _ (text : List ℕ) (known : Bool) (m : Memory) (sizing : Bool) (out : Li
       go (checked-of.Refused n at) e h = absurd (omega (arith, h, some-number text (length out) n at e))
       go (checked-of.Accepted r w) e h = (r, w, e)
 
+  -- ---- the plate
+  smallest-in : p .laid ≡ Accepted → 0 < controls (sheetIn text .steps) → SmallestIn (controls (sheetIn text .steps)) (inTicks 5 (p .plate)) exit
+  smallest-in a some =
+      let s = shown text known m sizing out p exit c a in
+      let cs = pass 5 (sheetIn text) known m sizing .cells in
+      let all = pass-all 5 (sheetIn text) known m sizing (s .number) in
+      let few = pass-few 5 (sheetIn text) known m sizing in
+      let q = price-clause .smallest (sheetIn text) (of-text text) known m sizing (s .number) some in
+      rw (s .plate, s .slice) (record {
+        holds = λ k l. holds-in _ cs (s .others) (q .holds) k (omega (arith, l, all));
+        least = λ t h. q .least t (in-holds t cs (s .others) (λ k l. h k (omega (arith, l, few))));
+      })
+
+  plate-of-none : controls (sheetIn text .steps) ≡ 0 → p .plate ≡ zeroRect
+  unfolding laid afterCheck
+  plate-of-none none = ap (λ (q : Passed). q .plate) (c .answer) ∙ go (checked text (length out))
+    where
+      go : (x : Checked) → afterCheck x text known m sizing out .outcome .plate ≡ zeroRect
+      go (checked-of.Refused n at) = refl
+      go (checked-of.Accepted r w) = price-clause .without-W (sheetIn text) (of-text text) known m sizing none
+
   -- ---- whole ticks
   whole-written : (k : ℕ) → k < length (laid text known m sizing out .outcome .cells) → WrittenWhole (laid text known m sizing out .outcome .cells) exit k
   unfolding laid afterCheck
@@ -212,5 +263,7 @@ call-clause = record {
   further = λ text g m count p out t a b x y n l. all-further text g m count p out t a b n l;
   without-K = λ text g k known m sizing out exit p c a. price-clause .without-K (sheetIn text) (of-text text) g k known m sizing (shown text known m sizing out p exit c a .number);
   all-further = all-further;
+  smallest = λ text known m sizing out exit p c a some. smallest-in text known m sizing out p exit c a some;
+  without-W = λ text known m sizing out exit p c none. plate-of-none text known m sizing out p exit c none;
   whole = λ text known m sizing out exit p c. (whole-written text known m sizing out p exit c, plate-whole text known m sizing out p exit c);
 }

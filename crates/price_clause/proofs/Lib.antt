@@ -1,4 +1,5 @@
 -- The price clause, in the order of the argument. Nothing stands on it.
+mod Plates
 mod OfStrips
 mod OfGrids
 pub mod PriceClause

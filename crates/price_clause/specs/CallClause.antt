@@ -19,8 +19,9 @@ use Rattle.sheet.specs.Pass.{Cell}
 use Rattle.sheet.specs.Ticks.{Ticks, inTicks}
 use Rattle.sheet.specs.Texts.{sheetIn}
 use Rattle.sheet.specs.Slices.{Called, laid, controls}
-use Rattle.price_clause.specs.Sheets.{GrownSheet, NoNegativeSpacing, Strip, FrameNoLess, PlateNoLess}
+use Rattle.price_clause.specs.Sheets.{GrownSheet, NoNegativeSpacing, Strip, FrameNoLess, PlateNoLess, OneCorner, cellAt}
 use Rattle.pass_laws.specs.Columns.{inColumn, widest}
+use Rattle.pass_laws.specs.Plates.{Holds}
 use Rattle.pass_laws.specs.Tops.{TopsOnSteps, NoK}
 
 -- ---- RULES 10.4: what a slice holds
@@ -47,6 +48,16 @@ pub record InTurn (text : List ℕ) (m : Memory) (count : ℕ) (answers : ℕ �
 pub record NoLessIn (count : ℕ) (p q : Passed) (out out′ : List ℤ) : Type 0 where
   pub frames : (k : ℕ) → k < count → FrameNoLess (frameIn out k) (frameIn out′ k)
   pub plate : PlateNoLess (inTicks tick (p .plate)) (inTicks tick (q .plate))
+  -- and more than the price list says: the second plate holds the first, and with a W both have one left top corner, that of their first
+  -- frames
+  pub holds : Holds (inTicks tick (q .plate)) (inTicks tick (p .plate))
+  pub corner : 0 < count
+      → OneCorner (inTicks tick (p .plate)) (frameIn out 0) × OneCorner (inTicks tick (q .plate)) (frameIn out′ 0) × OneCorner (inTicks tick (p .plate)) (inTicks tick (q .plate))
+
+-- RULES 6.19: t is the smallest rectangle around the frames of so many W: it holds each, and any other that does so holds it
+pub record SmallestIn (count : ℕ) (t : Ticks) (out : List ℤ) : Type 0 where
+  pub holds : (k : ℕ) → k < count → Holds t (frameIn out k)
+  pub least : (other : Ticks) → ((k : ℕ) → k < count → Holds other (frameIn out k)) → Holds other t
 
 -- RULES 10.8: call n is accepted, answers what the second one did (plate, memory and flag), and leaves the slice as the second one did
 pub record SecondAgain (answers : ℕ → Passed) (slices : ℕ → List ℤ) (n : ℕ) : Type 0 where
@@ -65,10 +76,7 @@ pub record RectIsTicks (r : Rect) (t : Ticks) : Type 0 where
   pub right : IsTicks (r .right) (t .right)
   pub bottom : IsTicks (r .bottom) (t .bottom)
 
--- RULES 10.10: the rectangles of W number k among those of a pass, and the eight places that were written for them
-abbrev pub cellAt : List Cell → ℕ → Cell
-cellAt cells k = getD cells k (record { frame = zeroRect; widget = zeroRect })
-
+-- RULES 10.10: W number k's rectangles in the pass, and the eight places that were written for them
 pub record WrittenWhole (cells : List Cell) (out : List ℤ) (k : ℕ) : Type 0 where
   pub frame : RectIsTicks (cellAt cells k .frame) (frameIn out k)
   pub widget : RectIsTicks (cellAt cells k .widget) (widgetIn out k)
@@ -103,6 +111,12 @@ pub record CallClause : Type 0 where
   -- RULES 10.9: every call after the second is the second again, with K too
   pub all-further : (text : List ℕ) → sheetIn text .heading .«has_grid» ≡ true → (m : Memory) (count : ℕ) (p : ℕ → Passed) (out : ℕ → List ℤ)
       → InTurn text m count p out → p 0 .laid ≡ Accepted → p 1 .laid ≡ Accepted → (n : ℕ) → n + 2 < count → SecondAgain p out (n + 2)
+  -- RULES 6.19: the plate of an accepted call on a sheet with a W is the smallest rectangle around the frames in the slice; without a W it
+  -- is all zero
+  pub smallest : (text : List ℕ) (known : Bool) (m : Memory) (sizing : Bool) (out exit : List ℤ) (p : Passed) → Called text known m sizing out p exit → p .laid ≡ Accepted
+      → 0 < controls (sheetIn text .steps) → SmallestIn (controls (sheetIn text .steps)) (inTicks tick (p .plate)) exit
+  pub without-W : (text : List ℕ) (known : Bool) (m : Memory) (sizing : Bool) (out exit : List ℤ) (p : Passed) → Called text known m sizing out p exit
+      → controls (sheetIn text .steps) ≡ 0 → p .plate ≡ zeroRect
   -- RULES 10.10: whole ticks, of every call, accepted or refused: each of the eight places of every W before a fault, or of all W, is
   -- exactly the edge of the pass, and the plate's edges are whole ticks
   pub whole : (text : List ℕ) (known : Bool) (m : Memory) (sizing : Bool) (out exit : List ℤ) (p : Passed) → Called text known m sizing out p exit

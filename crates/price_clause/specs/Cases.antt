@@ -1,4 +1,4 @@
--- RULES 9.1 to 9.7: the cases that are proved, one table of what a text is answered with and what it has to be.
+-- RULES 9.1 to 9.7, 9.10: the cases that are proved, one table of what a text is answered with and what it has to be.
 use Prim.Native.Nat.{ℕ, zero, suc, _*_}
 use mathlib.Core.Bool.{Bool, true, false, _&&_}
 use lib.Dec.{eqb}
@@ -11,7 +11,7 @@ use Rattle.emath.specs.Rectangles.{roundUi, alignOn}
 use Rattle.emath.specs.Steps.{tick, val}
 use Rattle.emath.specs.declared.Align.the-variants.{Center}
 use Rattle.grid.specs.Memories.{widths, heights}
-use Rattle.records.specs.Writers.{H, G, W, E}
+use Rattle.records.specs.Writers.{H, G, W, N, E}
 use Rattle.records.specs.Sheets.{records, widgets}
 use Rattle.sheet.specs.Slices.{LaidOut, edges}
 use Rattle.sheet.specs.Ticks.{Ticks, ticks, inTicks}
@@ -181,6 +181,52 @@ one-cell-too-many = record {
   expected = refused number.gridFull 35;
 }
 
+-- RULES 9.10: plates that are the frames', and not min_rect, which N and a centred start take further
+abbrev pub in-room : ℤ → List ℤ → List ℤ → List ℕ
+in-room cross edges spacing = H (pos 0 ∷ pos 0 ∷ pos 0 ∷ pos 0 ∷ cross ∷ pos 0 ∷ []) edges spacing
+
+abbrev pub no-spacing : List ℤ
+no-spacing = (pos 0 ∷ pos 0 ∷ [])
+
+abbrev pub wider-than-controls : Case
+wider-than-controls = record {
+  found = answer-to (in-room (pos 0) (edges (box (pos 0) (pos 0) (pos 640) (pos 640))) no-spacing ++ (N (pos 300) ++ W (pos 10) (pos 10)));
+  expected = without-grid (box (pos 0) (pos 0) (pos 10) (pos 10) ∷ []) (box (pos 0) (pos 0) (pos 10) (pos 10));
+}
+
+abbrev pub centred-grid : Case
+centred-grid = record {
+  found = answer-to (in-room (pos 1) (edges (box (pos 0) (pos 0) (pos 640) (pos 640))) no-spacing ++ (grid (pos 0) (pos 0) ++ W (pos 10) (pos 10)));
+  expected = pos 0 ∷ pos 0 ∷ (edges (box (pos 0) (pos 0) (pos 10) (pos 10)) ++ (twiceEach (box (pos 0) (pos 0) (pos 10) (pos 10) ∷ []) ++ (pos 1 ∷ pos 10 ∷ pos 1 ∷ pos 10 ∷ [])));
+}
+
+-- RULES 9.10: a frame of no size counts
+abbrev pub frame-of-no-size : Case
+frame-of-no-size = record {
+  found = answer-to (in-room (pos 0) (edges (box (pos 0) (pos 0) (pos 640) (pos 640))) (pos 10 ∷ pos 0 ∷ []) ++ (W (pos 5) (pos 5) ++ W (pos 0) (pos 0)));
+  expected = without-grid (box (pos 0) (pos 0) (pos 5) (pos 5) ∷ box (pos 15) (pos 0) (pos 15) (pos 0) ∷ []) (box (pos 0) (pos 0) (pos 15) (pos 5));
+}
+
+-- RULES 9.10: a plate need not touch 0, 0; and without a W it is all zero, wherever there is room
+abbrev pub plate-elsewhere : Case
+plate-elsewhere = record {
+  found = answer-to (in-room (pos 0) (edges (box (negsuc 499) (negsuc 299) (pos 640) (pos 640))) no-spacing ++ W (pos 10) (pos 20));
+  expected = without-grid (box (negsuc 499) (negsuc 299) (negsuc 489) (negsuc 279) ∷ []) (box (negsuc 499) (negsuc 299) (negsuc 489) (negsuc 279));
+}
+
+abbrev pub no-control : Case
+no-control = record {
+  found = answer-to (in-room (pos 0) (edges (box (pos 100) (pos 100) (pos 640) (pos 640))) no-spacing ++ E);
+  expected = without-grid [] (box (pos 0) (pos 0) (pos 0) (pos 0));
+}
+
+-- RULES 9.10: min_rect is held to the domain all the same
+abbrev pub min-rect-beyond : Case
+min-rect-beyond = record {
+  found = refusal-of (in-room (pos 0) (edges (box (pos 2097152) (pos 0) (pos 2097152) (pos 0))) no-spacing ++ N (pos 1));
+  expected = refused number.outside 2;
+}
+
 -- RULES 9.1: every entry of a table; and the entries
 unfoldable pub allHold : List Case → Bool
 allHold [] = true
@@ -189,4 +235,4 @@ allHold (c ∷ rest) = sameAll (c .found) (c .expected) && allHold rest
 abbrev pub table : List Case
 table =
     the-strip ∷ the-strip-written ∷ the-strip-printed ∷ the-grid ∷ one-tick-centred ∷ half-a-tick ∷ minus-half-a-tick ∷ twice ∷ one-more ∷ at-the-limit ∷ beyond-the-limit ∷ grid-from-the-right
-    ∷ one-cell-too-many ∷ []
+    ∷ one-cell-too-many ∷ wider-than-controls ∷ centred-grid ∷ frame-of-no-size ∷ plate-elsewhere ∷ no-control ∷ min-rect-beyond ∷ []

@@ -6,14 +6,17 @@ use mathlib.Core.List.{List, Forall₂}
 use Prim.Native.Nat.{ℕ, _+_, _<_}
 use lib.ListN.{length}
 use Rattle.emath.specs.Rectangles.{zeroF}
+use Rattle.region.specs.Refusals.{zeroRect}
 use Rattle.region.specs.Steps.{WholeRect}
 use Rattle.grid.specs.Memories.{colWidth}
 use Rattle.grid.specs.declared.Memory.{Memory}
 use Rattle.sheet.specs.Pass.{Sheet, Cell, Outcome, pass}
 use Rattle.sheet.specs.Passes.{passes}
-use Rattle.price_clause.specs.Sheets.{GrownSheet, NoNegativeSpacing, Strip, FrameNoLess, PlateNoLess}
+use Rattle.sheet.specs.Slices.{controls}
+use Rattle.price_clause.specs.Sheets.{GrownSheet, NoNegativeSpacing, Strip, FrameNoLess, PlateNoLess, OneCorner, firstFrame}
 use Rattle.sheet.specs.Ticks.{inTicks}
 use Rattle.pass_laws.specs.WholeCells.{WholeCells}
+use Rattle.pass_laws.specs.Plates.{Holds, Smallest}
 use Rattle.pass_laws.specs.Columns.{inColumn, widest}
 use Rattle.pass_laws.specs.Tops.{TopsOnSteps, NoK}
 use Rattle.sheet.specs.Texts.{sheetIn}
@@ -26,6 +29,11 @@ Accepted o = o .number ≡ 0
 pub record NoLess (k : ℕ) (a b : Outcome) : Type 0 where
   pub frames : Forall₂ (λ (c d : Cell). FrameNoLess (inTicks k (c .frame)) (inTicks k (d .frame))) (a .cells) (b .cells)
   pub plate : PlateNoLess (inTicks k (a .plate)) (inTicks k (b .plate))
+  -- and more than the price list says: the second plate holds the first, and with a W both have one left top corner, that of their first
+  -- frames
+  pub holds : Holds (inTicks k (b .plate)) (inTicks k (a .plate))
+  pub corner : 0 < length (a .cells)
+      → OneCorner (inTicks k (a .plate)) (firstFrame k (a .cells)) × OneCorner (inTicks k (b .plate)) (firstFrame k (b .cells)) × OneCorner (inTicks k (a .plate)) (inTicks k (b .plate))
 
 -- RULES 10.3: a sheet that was read from a text
 pub record OfText (s : Sheet) : Type 0 where
@@ -60,6 +68,10 @@ pub record PriceClause (k : ℕ) (Is : Sheet → Type 0) : Type 0 where
       → TopsOnSteps k s known m sizing
   pub all-further : (s : Sheet) → Is s → s .heading .«has_grid» ≡ true → (m : Memory) → Accepted (passes k s m 0) → Accepted (passes k s m 1)
       → (n : ℕ) → passes k s m (n + 2) ≡ passes k s m 1
+  -- RULES 6.19: the plate of an accepted pass with a W is the smallest rectangle around its frames; of a sheet without a W it is all zero
+  pub smallest : (s : Sheet) → Is s → (known : Bool) (m : Memory) (sizing : Bool) → Accepted (pass k s known m sizing) → 0 < controls (s .steps)
+      → Smallest k (inTicks k (pass k s known m sizing .plate)) (pass k s known m sizing .cells)
+  pub without-W : (s : Sheet) → Is s → (known : Bool) (m : Memory) (sizing : Bool) → controls (s .steps) ≡ 0 → pass k s known m sizing .plate ≡ zeroRect
   -- RULES 10.10: whole steps: the frame and the widget of every W before a fault, or of all, and the plate
   pub whole : (s : Sheet) → Is s → (known : Bool) (m : Memory) (sizing : Bool)
       → WholeCells k (pass k s known m sizing .cells) × WholeRect k (pass k s known m sizing .plate)

@@ -2,15 +2,18 @@
 use mathlib.Core.Path.{_≡_}
 use mathlib.Core.Bool.{true, false}
 use mathlib.Core.List.{List, [], _∷_}
+use Prim.Native.Nat.{ℕ}
+use lib.ListN.{getD}
 use lib.Signed.{_≤ℤ_}
 use lib.Ieee.{Float, le}
 use Rattle.emath.specs.Rectangles.{zeroF}
 use Rattle.emath.specs.declared.Align.{Align}
+use Rattle.region.specs.Refusals.{zeroRect}
 use Rattle.layout.specs.Strips.{strip}
 use Rattle.records.specs.declared.Step.{Step}
 use Rattle.records.specs.declared.Step.the-variants.{Widget, RowEnd}
-use Rattle.sheet.specs.Pass.{Sheet}
-use Rattle.sheet.specs.Ticks.{Ticks, width, height}
+use Rattle.sheet.specs.Pass.{Sheet, Cell}
+use Rattle.sheet.specs.Ticks.{Ticks, inTicks, width, height}
 
 -- ---- RULES 10.3: two sheets
 -- the same records one by one, controls and row ends only, no control of the second smaller on either axis than the first's in its place
@@ -43,7 +46,18 @@ pub record FrameNoLess (a b : Ticks) : Type 0 where
   pub width : width a ≤ℤ width b
   pub height : height a ≤ℤ height b
 
--- RULES 10.4: a plate has no place of its own, so of its extent alone
+-- RULES 10.4: a plate b beside a plate a: what is sold is the extent
 pub record PlateNoLess (a b : Ticks) : Type 0 where
   pub width : width a ≤ℤ width b
   pub height : height a ≤ℤ height b
+
+-- RULES 10.4: two rectangles with one left top corner; and W number n's rectangles among those of a pass, and the first frame
+pub record OneCorner (a b : Ticks) : Type 0 where
+  pub left : a .left ≡ b .left
+  pub top : a .top ≡ b .top
+
+abbrev pub cellAt : List Cell → ℕ → Cell
+cellAt cells n = getD cells n (record { frame = zeroRect; widget = zeroRect })
+
+abbrev pub firstFrame : ℕ → List Cell → Ticks
+firstFrame k cells = inTicks k (cellAt cells 0 .frame)

@@ -18,5 +18,8 @@ G width height row = letters.G ∷ (texts (width ∷ height ∷ []) ++ (replicat
 abbrev pub W : ℤ → ℤ → List ℕ
 W width height = line letters.W (width ∷ height ∷ [])
 
+abbrev pub N : ℤ → List ℕ
+N width = line letters.N (width ∷ [])
+
 abbrev pub E : List ℕ
 E = line letters.E []

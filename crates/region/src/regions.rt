@@ -1,7 +1,9 @@
 // Region's own: a cursor set, and what it expands to include.
 use crate::Region;
 use emath::Rect;
+use emath::unions::union_with;
 ghost use mathlib.Core.Path.{_≡_};
+ghost use Rattle.emath.specs.Implementation.NoNaN.{Numbers};
 ghost use Rattle.region.specs.Regions.{withCursor, expandToIncludeRect, expandToIncludeX, expandToIncludeY};
 
 pub fn with_cursor(region: Region, cursor: Rect) -> Region
@@ -18,6 +20,17 @@ pub fn expand_to_include_rect(region: Region, rect: Rect) -> Region
     let mut g = region;
     g.min_rect = region.min_rect.union(rect);
     g.max_rect = region.max_rect.union(rect);
+    g
+}
+
+// The same, where neither rectangle has a NaN.
+pub fn expand_with_rect(region: Region, rect: Rect) -> Region
+    requires { ⌜ Numbers (region .«min_rect») × Numbers (region .«max_rect») ⌝ }
+    ensures { λ g. ⌜ g ≡ expandToIncludeRect region rect ⌝ }
+{
+    let mut g = region;
+    g.min_rect = union_with(region.min_rect, rect);
+    g.max_rect = union_with(region.max_rect, rect);
     g
 }
 

@@ -3,6 +3,7 @@
 pub mod Runs
 pub mod Passes
 pub mod PlacedCells
+pub mod Plates
 pub mod WidgetCalls
 -- The call that runs.
 mod Stepping

@@ -1,5 +1,5 @@
--- An accepted pass: H is accepted, so is G where there is one, so is every record after them; and what the pass gives is what the last
--- placer holds. Assumes nothing.
+-- An accepted pass: H is accepted, so is G where there is one, so is every record after them; and what the pass gives is what its run has:
+-- the rectangles, their plate, and the last placer's memory. Assumes nothing.
 use Prim.Native.Nat.{ℕ, zero, suc, _+_, _<_}
 use mathlib.Core.Path.{_≡_, refl, ap, sym, _∙_, subst}
 use mathlib.Core.Bool.{Bool, true, false, cond}
@@ -27,7 +27,7 @@ use Rattle.sheet.proofs.Runs.{some, going}
 pub record Given (grid : Bool) (m : Memory) (r : Ran) (o : Outcome) : Type 0 where
   pub run : r .number ≡ 0
   pub cells : o .cells ≡ r .cells
-  pub plate : o .plate ≡ plateOf r
+  pub plate : o .plate ≡ plateOf (r .cells)
   pub memory : o .memory ≡ remembered grid m (r .placer) .memory
   pub save : o .save ≡ remembered grid m (r .placer) .save
 
@@ -38,7 +38,7 @@ given grid m r h = go (r .number) refl
     whole : Bool → Outcome
     whole b =
         cond b
-        (record { number = 0; at = 0; cells = r .cells; plate = plateOf r; memory = remembered grid m (r .placer) .memory; save = remembered grid m (r .placer) .save })
+        (record { number = 0; at = 0; cells = r .cells; plate = plateOf (r .cells); memory = remembered grid m (r .placer) .memory; save = remembered grid m (r .placer) .save })
         (refusedAt (r .number) (r .at) (r .cells) m)
 
     go : (n : ℕ) → r .number ≡ n → Given grid m r (whole (eqb (r .number) 0))
@@ -47,9 +47,9 @@ given grid m r h = go (r .number) refl
         subst (λ (n : ℕ). Given grid m r (whole (eqb n 0))) (sym e) g
     go (suc n) e = absurd (let f : suc n ≡ 0 = rw (some n) at (rw e at h) in omega arith)
 
--- ---- an outcome is accepted, at no record, or has a plate of zeros
+-- ---- an outcome is accepted, at no record, with the plate of its frames, or has a plate of zeros
 pub data Ended (o : Outcome) : Type 0 where
-  well : o .number ≡ 0 → o .at ≡ 0 → Ended o
+  well : o .number ≡ 0 → o .at ≡ 0 → o .plate ≡ plateOf (o .cells) → Ended o
   badly : 0 < o .number → o .plate ≡ zeroRect → Ended o
 
 pub outcome-ends : (grid : Bool) (m : Memory) (r : Ran) → Ended (outcomeOf grid m r)
@@ -57,13 +57,9 @@ unfolding outcomeOf
 outcome-ends grid m r = go (eqb (r .number) 0) refl
   where
     go : (b : Bool) → eqb (r .number) 0 ≡ b
-        → Ended (cond b (record { number = 0; at = 0; cells = r .cells; plate = plateOf r; memory = remembered grid m (r .placer) .memory; save = remembered grid m (r .placer) .save }) (refusedAt (r .number) (r .at) (r .cells) m))
-    go true e = well refl refl
+        → Ended (cond b (record { number = 0; at = 0; cells = r .cells; plate = plateOf (r .cells); memory = remembered grid m (r .placer) .memory; save = remembered grid m (r .placer) .save }) (refusedAt (r .number) (r .at) (r .cells) m))
+    go true e = well refl refl refl
     go false e = badly (omega (arith, eqb-false (r .number) 0 e)) refl
-
-same-plate : (r t : Ran) → r .placer ≡ t .placer → plateOf r ≡ plateOf t
-unfolding plateOf
-same-plate r t e = ap (λ (p : Placer). p .region .«min_rect») e
 
 -- ---- H
 pub headed-is : (k : ℕ) (h : Heading) → headed k h .number ≡ 0
@@ -108,7 +104,6 @@ module _ (k : ℕ) (s : Sheet) (known : Bool) (m : Memory) (sizing : Bool) where
     pub fault : placerFault gridStart ≡ 0
     pub run : runFrom k (s .heading .spacing) (s .heading .records + 1) gridStart (s .steps) .number ≡ 0
     pub cells : pass k s known m sizing .cells ≡ runFrom k (s .heading .spacing) (s .heading .records + 1) gridStart (s .steps) .cells
-    pub plate : pass k s known m sizing .plate ≡ plateOf (runFrom k (s .heading .spacing) (s .heading .records + 1) gridStart (s .steps))
     pub memory : pass k s known m sizing .memory ≡ saveGrid (runFrom k (s .heading .spacing) (s .heading .records + 1) gridStart (s .steps) .placer) .memory
 
   abbrev last : Placer → Ran
@@ -170,6 +165,9 @@ module _ (k : ℕ) (s : Sheet) (known : Bool) (m : Memory) (sizing : Bool) where
   unfolding pass
   pass-given h = given (s .heading .«has_grid») m whole h
 
+  pub pass-plate : pass k s known m sizing .number ≡ 0 → pass k s known m sizing .plate ≡ plateOf (pass k s known m sizing .cells)
+  pass-plate h = let a = pass-given h in a .plate ∙ ap plateOf (sym (a .cells))
+
   saved : (g : Bool) (p : Placer) → g ≡ true → remembered g m p .memory ≡ saveGrid p .memory
   unfolding remembered
   saved g p e = rw e
@@ -187,7 +185,6 @@ module _ (k : ℕ) (s : Sheet) (known : Bool) (m : Memory) (sizing : Bool) where
         fault = c .fault;
         run = c .run;
         cells = a .cells ∙ b .cells ∙ c .cells;
-        plate = a .plate ∙ same-plate _ _ q;
         memory = a .memory ∙ saved (s .heading .«has_grid») (whole .placer) g ∙ ap (λ (x : Placer). saveGrid x .memory) q;
       }
 
@@ -197,7 +194,6 @@ module _ (k : ℕ) (s : Sheet) (known : Bool) (m : Memory) (sizing : Bool) where
     pub begin : placerFault start ≡ 0
     pub run : runFrom k (s .heading .spacing) (s .heading .records + 1) start (s .steps) .number ≡ 0
     pub cells : pass k s known m sizing .cells ≡ runFrom k (s .heading .spacing) (s .heading .records + 1) start (s .steps) .cells
-    pub plate : pass k s known m sizing .plate ≡ plateOf (runFrom k (s .heading .spacing) (s .heading .records + 1) start (s .steps))
 
   without-grid : s .heading .«has_grid» ≡ false → (p : Placer) → ranWith k s known m sizing p ≡ runFrom k (s .heading .spacing) (s .heading .records + 1) p (s .steps)
   unfolding ranWith
@@ -213,5 +209,4 @@ module _ (k : ℕ) (s : Sheet) (known : Bool) (m : Memory) (sizing : Bool) where
         begin = b .begin;
         run = ap (λ (r : Ran). r .number) (sym e) ∙ b .run;
         cells = a .cells ∙ b .cells ∙ ap (λ (r : Ran). r .cells) e;
-        plate = a .plate ∙ same-plate _ _ (b .placer ∙ ap (λ (r : Ran). r .placer) e);
       }

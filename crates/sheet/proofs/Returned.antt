@@ -44,7 +44,7 @@ unfolding pass
 pass-at-none k s known m sizing z = go (outcome-ends _ m _)
   where
     go : Ended (pass k s known m sizing) → pass k s known m sizing .at ≡ 0
-    go (well e a) = a
+    go (well e a p) = a
     go (badly l e) = absurd (omega (arith, z, l))
 
 module _ (text : List ℕ) (known : Bool) (m : Memory) (sizing : Bool) (out : List ℤ) where

@@ -83,7 +83,7 @@ pub outcome-cells : (grid : Bool) (m : Memory) (r : Ran) → outcomeOf grid m r 
 unfolding outcomeOf
 outcome-cells grid m r = go (eqb (r .number) 0)
   where
-    go : (b : Bool) → cond b (record { number = 0; at = 0; cells = r .cells; plate = plateOf r; memory = remembered grid m (r .placer) .memory; save = remembered grid m (r .placer) .save }) (refusedAt (r .number) (r .at) (r .cells) m) .cells ≡ r .cells
+    go : (b : Bool) → cond b (record { number = 0; at = 0; cells = r .cells; plate = plateOf (r .cells); memory = remembered grid m (r .placer) .memory; save = remembered grid m (r .placer) .save }) (refusedAt (r .number) (r .at) (r .cells) m) .cells ≡ r .cells
     go true = refl
     go false = refl
 

@@ -1,5 +1,5 @@
 -- A whole tick times 32 is a whole number that an i32 holds. Assumes nothing.
-use Prim.Native.Nat.{ℕ, suc, _+_}
+use Prim.Native.Nat.{ℕ, suc, _+_, _≤_}
 use mathlib.Core.Path.{_≡_, refl, ap, sym, _∙_}
 use native.Mathlib.Omega.{arith}
 use lib.Dec.{T}
@@ -24,8 +24,11 @@ casts x e =
     let E = edge-small tick (omega arith) e in
     rw (thirty-two, e .is) (points-to-steps tick (omega arith) (e .steps) (omega (arith, E)) .0)
 
+pub steps-are : (k : ℕ) → k ≤ 7 → (x : Float) (e : Edge k x) → ticks k x ≡ e .steps
+steps-are k l x e = ap (λ (y : Float). ticks k y) (e .is) ∙ points-to-steps k (omega arith) (e .steps) (omega (arith, edge-small k l e)) .1
+
 pub ticks-are : (x : Float) (e : Edge tick x) → ticks tick x ≡ e .steps
-ticks-are x e = ap (λ (y : Float). ticks tick y) (e .is) ∙ points-to-steps tick (omega arith) (e .steps) (omega (arith, edge-small tick (omega arith) e)) .1
+ticks-are = steps-are tick (omega arith)
 
 pub counted-in-ticks : (x : Float) → Edge tick x → toZ w32 (ofZ w32 (toSigned 31 (mul binary32 x (ofBits binary32 1107296256)))) ≡ ticks tick x
 counted-in-ticks x e =

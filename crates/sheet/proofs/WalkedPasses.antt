@@ -18,7 +18,7 @@ use Rattle.records.specs.Sheets.{checked}
 use Rattle.records.specs.declared.Heading.{Heading}
 use Rattle.records.specs.declared.Step.{Step}
 use Rattle.records.specs.declared.Checked.the-variants.{Accepted, Refused}
-use Rattle.sheet.specs.Pass.{Sheet, Ran, called, followed, runFrom, headed, gridSet, refusedAt, outcomeOf, begun, ranWith, pass}
+use Rattle.sheet.specs.Pass.{Sheet, Ran, called, followed, runFrom, headed, gridSet, plateOf, refusedAt, outcomeOf, begun, ranWith, pass}
 use Rattle.sheet.specs.Texts.{sheetIn}
 use Rattle.sheet.specs.Slices.{written, passedOf, Called, afterCheck, laid}
 use Rattle.sheet.specs.declared.Passed.{Passed}
@@ -29,8 +29,8 @@ use Rattle.sheet.proofs.Returned as returned
 -- ---- what a run comes to
 -- the loop's, where it came to an end
 pub run-answers : (grid : Bool) (m : Memory) (sp : Vec2) (n : ℕ) (q : Placer) (steps : List Step) (out : List ℤ) (r : Run) (p : Passed) (exit : List ℤ) → Walked sp n q steps out r exit
-    → p ≡ passedOf (outcomeOf grid m (ranOf (runFrom tick sp n q steps .cells) r)) → Answers grid m (runFrom tick sp n q steps) out p exit
-run-answers grid m sp n q steps out r p exit w e = record { answer = e ∙ ap (λ (x : Ran). passedOf (outcomeOf grid m x)) (w .run); slice = w .slice }
+    → (r .plate ≡ plateOf (runFrom tick sp n q steps .cells) → p ≡ passedOf (outcomeOf grid m (ranOf (runFrom tick sp n q steps .cells) r))) → Answers grid m (runFrom tick sp n q steps) out p exit
+run-answers grid m sp n q steps out r p exit w e = record { answer = e (w .plate) ∙ ap (λ (x : Ran). passedOf (outcomeOf grid m x)) (w .run); slice = w .slice }
 
 -- record n was refused
 pub refused-answers : (grid : Bool) (m : Memory) (n : ℕ) (a : PlacerAnswer) (later : Ran) (out : List ℤ) (p : Passed) → (a .number ≡ 0 → ⊥)

@@ -10,6 +10,7 @@ use borrow.Author.Tests.{eq-eqb, ne-eqb}
 use lib.IntN.{ℤ}
 use lib.ListN.{length, drop, length-drop, drop-of-length-le}
 use Rattle.emath.specs.Steps.{tick}
+use Rattle.emath.specs.declared.Rect.{Rect}
 use Rattle.emath.specs.declared.Vec2.{Vec2}
 use Rattle.region.specs.Steps.{WholeRect}
 use Rattle.placer.specs.Refusals.{placerFault}
@@ -24,7 +25,7 @@ use Rattle.records.specs.declared.Record.{Record}
 use Rattle.records.specs.declared.Record.the-variants as record-of
 use Rattle.sheet.specs.Pass.{cellOf}
 use Rattle.sheet.specs.Implementation.Calls.{CallResult, placement, stepResult, recordResult}
-use Rattle.sheet.specs.Implementation.Walks.{putAt}
+use Rattle.sheet.specs.Implementation.Walks.{putAt, plateWith}
 use Rattle.sheet.proofs.Walks.{Walk, done, walked}
 use Rattle.sheet.proofs.Runs.{widget-placed}
 use Rattle.sheet.proofs.Stepping.{moved-none}
@@ -83,50 +84,50 @@ at-most-one (record-of.Step st) = one-or-none st
 at-most-one record-of.Wrong = omega arith
 
 -- ---- one turn
-front : (left : ℕ) (sp : Vec2) (n : ℕ) (p : Placer) (u : List ℕ) (out : List ℤ) (w : ℕ) → 0 < left → 0 < length u
-    → walked left sp n p u out w
+front : (left : ℕ) (sp : Vec2) (n : ℕ) (p : Placer) (u : List ℕ) (out : List ℤ) (w : ℕ) (plate : Rect) → 0 < left → 0 < length u
+    → walked left sp n p u out w plate
     ≡ cond (eqb (recordResult p sp (recordOf u) .number) 0)
-    (walked (left - 1) sp (n + 1) (recordResult p sp (recordOf u) .placer) (rest u) (putAt out w (recordResult p sp (recordOf u) .placed) (recordResult p sp (recordOf u) .frame) (recordResult p sp (recordOf u) .widget)) (w + recordResult p sp (recordOf u) .placed))
-    (record { run = record { number = recordResult p sp (recordOf u) .number; at = n; placer = recordResult p sp (recordOf u) .placer }; slice = out })
+    (walked (left - 1) sp (n + 1) (recordResult p sp (recordOf u) .placer) (rest u) (putAt out w (recordResult p sp (recordOf u) .placed) (recordResult p sp (recordOf u) .frame) (recordResult p sp (recordOf u) .widget)) (w + recordResult p sp (recordOf u) .placed) (plateWith plate w (recordResult p sp (recordOf u) .placed) (recordResult p sp (recordOf u) .frame)))
+    (record { run = record { number = recordResult p sp (recordOf u) .number; at = n; placer = recordResult p sp (recordOf u) .placer; plate = plate }; slice = out })
 unfolding walked
-front zero sp n p u out w h l = absurd (omega arith)
-front (suc left) sp n p [] out w h l = absurd (omega arith)
-front (suc left) sp n p (b ∷ u) out w h l = let e : suc left - 1 ≡ left = omega arith in rw e
+front zero sp n p u out w plate h l = absurd (omega arith)
+front (suc left) sp n p [] out w plate h l = absurd (omega arith)
+front (suc left) sp n p (b ∷ u) out w plate h l = let e : suc left - 1 ≡ left = omega arith in rw e
 
-ended-walk : (left : ℕ) (sp : Vec2) (n : ℕ) (p : Placer) (out : List ℤ) (w : ℕ) → walked left sp n p [] out w ≡ done p out
+ended-walk : (left : ℕ) (sp : Vec2) (n : ℕ) (p : Placer) (out : List ℤ) (w : ℕ) (plate : Rect) → walked left sp n p [] out w plate ≡ done p out plate
 unfolding walked
-ended-walk zero sp n p out w = refl
-ended-walk (suc left) sp n p out w = refl
+ended-walk zero sp n p out w plate = refl
+ended-walk (suc left) sp n p out w plate = refl
 
-full-walk : (left : ℕ) (sp : Vec2) (n : ℕ) (p : Placer) (u : List ℕ) (out : List ℤ) (w : ℕ) → left ≤ 0 → walked left sp n p u out w ≡ done p out
+full-walk : (left : ℕ) (sp : Vec2) (n : ℕ) (p : Placer) (u : List ℕ) (out : List ℤ) (w : ℕ) (plate : Rect) → left ≤ 0 → walked left sp n p u out w plate ≡ done p out plate
 unfolding walked
-full-walk zero sp n p u out w h = refl
-full-walk (suc left) sp n p u out w h = absurd (omega arith)
+full-walk zero sp n p u out w plate h = refl
+full-walk (suc left) sp n p u out w plate h = absurd (omega arith)
 
 -- what a turn gives that reads a record: m, what the record gives
-pub record Turn (text : List ℕ) (sp : Vec2) (left n at w : ℕ) (p : Placer) (out : List ℤ) (r : Walk) (m : CallResult) : Type 0 where
-  pub stops : (m .number ≡ 0 → ⊥) → record { run = record { number = m .number; at = n; placer = m .placer }; slice = out } ≡ r
-  pub goes-on : m .number ≡ 0 → walked (left - 1) sp (n + 1) (m .placer) (drop (nextAt text at) text) (putAt out w (m .placed) (m .frame) (m .widget)) (w + m .placed) ≡ r
+pub record Turn (text : List ℕ) (sp : Vec2) (left n at w : ℕ) (p : Placer) (out : List ℤ) (plate : Rect) (r : Walk) (m : CallResult) : Type 0 where
+  pub stops : (m .number ≡ 0 → ⊥) → record { run = record { number = m .number; at = n; placer = m .placer; plate = plate }; slice = out } ≡ r
+  pub goes-on : m .number ≡ 0 → walked (left - 1) sp (n + 1) (m .placer) (drop (nextAt text at) text) (putAt out w (m .placed) (m .frame) (m .widget)) (w + m .placed) (plateWith plate w (m .placed) (m .frame)) ≡ r
   -- the slice has room for the W that are left
   pub room : 8 * (w + widgets (recordsFrom left (drop at text))) ≤ length out → 8 * (w + m .placed + widgets (recordsFrom (left - 1) (drop (nextAt text at) text))) ≤ length out
   pub few : m .placed ≤ 1
   pub in-ticks : m .number ≡ 0 → 0 < m .placed → Whole m
   pub unfaulted : m .number ≡ 0 → placerFault (m .placer) ≡ 0
 
-module _ (text : List ℕ) (sp : Vec2) (left n at w : ℕ) (p : Placer) (out : List ℤ) (r : Walk) (inv : walked left sp n p (drop at text) out w ≡ r) where
-  pub walk-ends : length text ≤ at → done p out ≡ r
-  walk-ends h = sym (ended-walk left sp n p out w) ∙ ap (λ (u : List ℕ). walked left sp n p u out w) (sym (drop-of-length-le text h)) ∙ inv
+module _ (text : List ℕ) (sp : Vec2) (left n at w : ℕ) (p : Placer) (out : List ℤ) (plate : Rect) (r : Walk) (inv : walked left sp n p (drop at text) out w plate ≡ r) where
+  pub walk-ends : length text ≤ at → done p out plate ≡ r
+  walk-ends h = sym (ended-walk left sp n p out w plate) ∙ ap (λ (u : List ℕ). walked left sp n p u out w plate) (sym (drop-of-length-le text h)) ∙ inv
 
-  pub walk-is-full : left ≤ 0 → done p out ≡ r
-  walk-is-full h = sym (full-walk left sp n p (drop at text) out w h) ∙ inv
+  pub walk-is-full : left ≤ 0 → done p out plate ≡ r
+  walk-is-full h = sym (full-walk left sp n p (drop at text) out w plate h) ∙ inv
 
   module _ (more : 0 < left) (here : at < length text) (m : CallResult) (em : m ≡ recordResult p sp (recordAt text at)) where
-    next : cond (eqb (m .number) 0) (walked (left - 1) sp (n + 1) (m .placer) (drop (nextAt text at) text) (putAt out w (m .placed) (m .frame) (m .widget)) (w + m .placed))
-        (record { run = record { number = m .number; at = n; placer = m .placer }; slice = out }) ≡ r
+    next : cond (eqb (m .number) 0) (walked (left - 1) sp (n + 1) (m .placer) (drop (nextAt text at) text) (putAt out w (m .placed) (m .frame) (m .widget)) (w + m .placed) (plateWith plate w (m .placed) (m .frame)))
+        (record { run = record { number = m .number; at = n; placer = m .placer; plate = plate }; slice = out }) ≡ r
     unfolding recordAt
     next =
         let l : 0 < length (drop at text) = omega (arith, length-drop at text) in
-        rw (em, next-is-rest text at) (sym (front left sp n p (drop at text) out w more l) ∙ inv)
+        rw (em, next-is-rest text at) (sym (front left sp n p (drop at text) out w plate more l) ∙ inv)
 
     placed-here : m .placed ≡ widget (recordAt text at)
     placed-here = ap (λ (x : CallResult). x .placed) em ∙ result-placed p sp (recordAt text at)
@@ -140,7 +141,7 @@ module _ (text : List ℕ) (sp : Vec2) (left n at w : ℕ) (p : Placer) (out : L
     accepted-here : m .number ≡ 0 → recordResult p sp (recordAt text at) .number ≡ 0
     accepted-here h = ap (λ (x : CallResult). x .number) (sym em) ∙ h
 
-    pub turn : Turn text sp left n at w p out r m
+    pub turn : Turn text sp left n at w p out plate r m
     turn = record {
       stops = λ h. rw (ne-eqb (m .number) 0 h) at next;
       goes-on = λ h. rw (eq-eqb (m .number) 0 h) at next;

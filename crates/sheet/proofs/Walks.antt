@@ -4,25 +4,26 @@ use mathlib.Core.Bool.{Bool, true, false, cond}
 use mathlib.Core.List.{List, [], _∷_}
 use lib.IntN.{ℤ}
 use lib.Dec.{eqb}
+use Rattle.emath.specs.declared.Rect.{Rect}
 use Rattle.emath.specs.declared.Vec2.{Vec2}
 use Rattle.placer.specs.declared.Placer.{Placer}
 use Rattle.records.specs.Records.{recordOf, rest}
 use Rattle.sheet.specs.Implementation.Calls.{recordResult}
-use Rattle.sheet.specs.Implementation.Walks.{putAt, Run}
+use Rattle.sheet.specs.Implementation.Walks.{putAt, plateWith, Run}
 
 pub record Walk : Type 0 where
   pub run : Run
   pub slice : List ℤ
 
-abbrev pub done : Placer → List ℤ → Walk
-done p out = record { run = record { number = 0; at = 0; placer = p }; slice = out }
+abbrev pub done : Placer → List ℤ → Rect → Walk
+done p out plate = record { run = record { number = 0; at = 0; placer = p; plate = plate }; slice = out }
 
--- record n is at the front of the text, w W came before it, and there may be so many records more
-unfoldable pub walked : ℕ → Vec2 → ℕ → Placer → List ℕ → List ℤ → ℕ → Walk
-walked zero sp n p s out w = done p out
-walked (suc left) sp n p [] out w = done p out
-walked (suc left) sp n p (b ∷ s) out w =
+-- record n is at the front of the text, w W with this plate came before it, and there may be so many records more
+unfoldable pub walked : ℕ → Vec2 → ℕ → Placer → List ℕ → List ℤ → ℕ → Rect → Walk
+walked zero sp n p s out w plate = done p out plate
+walked (suc left) sp n p [] out w plate = done p out plate
+walked (suc left) sp n p (b ∷ s) out w plate =
     let m = recordResult p sp (recordOf (b ∷ s)) in
     cond (eqb (m .number) 0)
-    (walked left sp (n + 1) (m .placer) (rest (b ∷ s)) (putAt out w (m .placed) (m .frame) (m .widget)) (w + m .placed))
-    (record { run = record { number = m .number; at = n; placer = m .placer }; slice = out })
+    (walked left sp (n + 1) (m .placer) (rest (b ∷ s)) (putAt out w (m .placed) (m .frame) (m .widget)) (w + m .placed) (plateWith plate w (m .placed) (m .frame)))
+    (record { run = record { number = m .number; at = n; placer = m .placer; plate = plate }; slice = out })

@@ -4,6 +4,7 @@ use Prim.Native.Nat.{ℕ, _+_}
 use mathlib.Core.Bool.{Bool, false, cond}
 use mathlib.Core.List.{List, [], _∷_, _++_}
 use lib.Dec.{eqb}
+use Rattle.emath.specs.Rectangles.{union}
 use Rattle.emath.specs.Refusals.{least, orElse, pairFault, sizeFault, edgesFault, outside}
 use Rattle.emath.specs.declared.Rect.{Rect}
 use Rattle.emath.specs.declared.Vec2.{Vec2}
@@ -108,9 +109,14 @@ gridSet h known m sizing p =
     }
 
 -- ---- the whole pass
--- RULES 6.19: the plate is min_rect after the last record
-unfoldable pub plateOf : Ran → Rect
-plateOf r = r .placer .region .«min_rect»
+-- RULES 6.19: the plate is the union of all frames; without a W it is all zero
+unfoldable pub around : Rect → List Cell → Rect
+around r [] = r
+around r (c ∷ rest) = around (union r (c .frame)) rest
+
+unfoldable pub plateOf : List Cell → Rect
+plateOf [] = zeroRect
+plateOf (c ∷ rest) = around (c .frame) rest
 
 -- RULES 6.12: what a pass gives: a refusal's number and record (0 and 0: none), its W's rectangles, the plate, a memory, the save flag
 pub record Outcome : Type 0 where
@@ -133,7 +139,7 @@ remembered grid m p = cond grid (saveGrid p) (record { memory = m; save = false 
 unfoldable pub outcomeOf : Bool → Memory → Ran → Outcome
 outcomeOf grid m r =
     cond (eqb (r .number) 0)
-    (record { number = 0; at = 0; cells = r .cells; plate = plateOf r; memory = remembered grid m (r .placer) .memory; save = remembered grid m (r .placer) .save })
+    (record { number = 0; at = 0; cells = r .cells; plate = plateOf (r .cells); memory = remembered grid m (r .placer) .memory; save = remembered grid m (r .placer) .save })
     (refusedAt (r .number) (r .at) (r .cells) m)
 
 -- RULES 6.17: record n of the heading gives the placer from which the pass goes on, or is refused

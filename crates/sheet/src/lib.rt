@@ -6,6 +6,7 @@ use placer::PassState;
 pub mod cells;
 mod outcomes;
 pub mod passing;
+mod plate;
 mod steps;
 mod walk;
 
@@ -19,11 +20,12 @@ pub struct StepResult {
     pub widget: Rect,
 }
 
-// How far a run came: a refusal's number and record, 0 and 0 for none, and the state there.
+// How far a run came: a refusal's number and record, 0 and 0 for none, the state there, and the plate of the W before it.
 pub struct RunResult {
     pub number: u8,
     pub at: usize,
     pub state: PassState,
+    pub plate: Rect,
 }
 
 // Whether a pass is accepted, or the refusal's number (RULES 8.1) and the record, from 1.

@@ -14,7 +14,7 @@ use placer::rules::save_grid;
 use records::Heading;
 ghost use mathlib.Core.Path.{_≡_};
 ghost use mathlib.Core.List.{List, []};
-ghost use Rattle.sheet.specs.Pass.{Cell, refusedAt, outcomeOf, gridSet as gridSetBy};
+ghost use Rattle.sheet.specs.Pass.{Cell, refusedAt, plateOf, outcomeOf, gridSet as gridSetBy};
 ghost use Rattle.sheet.specs.Implementation.Walks.{runOf, ranOf};
 ghost use Rattle.sheet.specs.Slices.{laidOf, passedOf};
 
@@ -41,7 +41,7 @@ pub(crate) fn refused(number: u8, at: usize, memory: Memory) -> Passed
     }
 }
 
-// At the run's end: the plate is min_rect, and the memory is the grid's, which the arrays hold, or without a grid the given one.
+// At the run's end: the plate is that of its frames, and the memory is the grid's, which the arrays hold, or without a grid the given one.
 pub(crate) fn finish(
     grid: bool,
     memory: Memory,
@@ -51,15 +51,14 @@ pub(crate) fn finish(
     widths: [f32; 32],
     heights: [f32; 128],
 ) -> Passed
-    ensures { λ p. ⌜ ((cs : List Cell) → p ≡ passedOf (outcomeOf grid memory (ranOf cs (runOf placer r (prev .«col_widths») (prev .«row_heights») widths heights)))) ⌝ }
+    ensures { λ p. ⌜ ((cs : List Cell) → r .plate ≡ plateOf cs → p ≡ passedOf (outcomeOf grid memory (ranOf cs (runOf placer r (prev .«col_widths») (prev .«row_heights») widths heights)))) ⌝ }
 {
     let number = r.number;
     if number != 0 {
         return refused(number, r.at, memory);
     }
     let s = r.state;
-    let region = s.region;
-    let plate = region.min_rect;
+    let plate = r.plate;
     let laid = Laid::Accepted;
     if grid {
         let saved = save_grid(whole(placer, s, prev, widths, heights));

@@ -1,7 +1,9 @@
 // The records of a text one after the other (RULES 6.17).
 use crate::RunResult;
 use crate::cells::put;
+use crate::plate::plate_with;
 use crate::steps::run_record;
+use emath::Rect;
 use emath::Vec2;
 use placer::PassState;
 use placer::PlacerSettings;
@@ -17,7 +19,8 @@ ghost use Rattle.sheet.specs.Implementation.Calls.{Ready};
 ghost use Rattle.sheet.specs.Texts.{stepsOf};
 ghost use Rattle.sheet.specs.Implementation.Walks.{runOf, Walked, OnlySteps};
 
-// From the place `from`, where record `first` is, at most `most` records, the W from the cache; each W's rectangles go to the slice.
+// From the place `from`, where record `first` is, at most `most` records, the W from the cache; each W's rectangles go to the slice, and its
+// frame joins the plate.
 pub fn run(
     text: &[u8],
     sizes: &[f32],
@@ -42,6 +45,7 @@ pub fn run(
     let mut at = from;
     let mut n = first;
     let mut w: usize = 0;
+    let mut plate = Rect::ZERO;
     let mut left = most;
     while 0 < left {
         if text.len() <= at {
@@ -49,6 +53,7 @@ pub fn run(
                 number: 0,
                 at: 0,
                 state: s,
+                plate,
             };
         }
         let m = run_record(
@@ -68,8 +73,10 @@ pub fn run(
                 number,
                 at: n,
                 state: next,
+                plate,
             };
         }
+        plate = plate_with(plate, w, m.placed, m.frame);
         w = put(out, w, m.placed, m.frame, m.widget);
         s = next;
         at = next_record(text, at);
@@ -80,5 +87,6 @@ pub fn run(
         number: 0,
         at: 0,
         state: s,
+        plate,
     }
 }

@@ -166,7 +166,7 @@ module _ (text : List ℕ) (r w : ℕ) (e : checked text 4096 ≡ checked-of.Acc
       let b = pass-all 5 (sheetIn text) known m sizing z in
       let d = pass-few 5 (sheetIn text) known m sizing in
       let t = clear text 4096 r w e .fits in
-      let v = whole-pass 5 (omega arith) (sheetIn text) (text-whole text) known m sizing in
+      let v = whole-pass 5 (omega arith) (sheetIn text) known m sizing in
       shows (headingIn text .records + 1) grid (records text) (pass 5 (sheetIn text) known m sizing) f (omega (arith, a, b, d)) (omega (arith, a, d, t)) (v .cells) (v .plate)
 
   list-is : printed (sheetIn text) .number ≡ 0 → listOf text ≡ acceptedLines (headingIn text) (records text) (printed (sheetIn text))

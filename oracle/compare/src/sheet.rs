@@ -21,6 +21,8 @@ mod listing;
 pub mod lists;
 #[cfg(feature = "placer")]
 pub mod passes;
+#[cfg(feature = "placer")]
+mod plates;
 mod probe;
 mod reference;
 pub mod sheets;

@@ -69,6 +69,8 @@ struct Pass<const CHECKED: bool> {
     in_grid: bool,
     col: usize,
     row: usize,
+    /// Of the frames so far.
+    plate: Rect,
 }
 
 impl<const CHECKED: bool> Pass<CHECKED> {
@@ -122,6 +124,7 @@ impl<const CHECKED: bool> Pass<CHECKED> {
             self.checked(if fits { 0 } else { 9 })?;
             self.new_state()?;
         }
+        self.plate |= frame;
         put_ticks(&mut places[..4], frame);
         put_ticks(&mut places[4..], widget);
         Ok(())
@@ -191,6 +194,7 @@ fn begin<const CHECKED: bool>(record: Record) -> Result<Pass<CHECKED>, u8> {
         in_grid: false,
         col: 0,
         row: 0,
+        plate: Rect::NOTHING,
     };
     pass.new_state()?;
     Ok(pass)
@@ -215,10 +219,11 @@ pub fn pass<const CHECKED: bool>(
         };
         done.map_err(|number| (number, n))?;
     }
+    let none = pass.plate.is_negative();
     let given = memory.copied().unwrap_or(Memory::EMPTY);
     let (memory, save) = pass.placer.saved_grid().unwrap_or((given, false));
     Ok(Laid {
-        plate: edges(pass.placer.min_rect()),
+        plate: if none { [0.0; 4] } else { edges(pass.plate) },
         memory,
         save,
     })

@@ -16,7 +16,7 @@ module _ {F : Type 0} (o : Ops F) (g : Given F) (also : EngineState F → Move F
     widgetAt = widget o frameAt w h
 
     abbrev afterAt : EngineState F
-    afterAt = advance o g s frameAt widgetAt
+    afterAt = advance o g s widgetAt
 
     pub record Placed : Type 0 where
       pub right : T (o .inside (frameAt .right))

@@ -5,7 +5,7 @@ use mathlib.Core.List.{List, [], _∷_, map}
 use Prim.Native.Nat.{ℕ, zero, suc, zero-le, _+_, _*_, _≤_, max}
 use native.Mathlib.Omega.{arith}
 use lib.ListN.{getD}
-use Rattle.model.proofs.WholeSteps.Model.{Step, W, E, Box, Plate, Heading, Memory, State, lift, begin, seed}
+use Rattle.model.proofs.WholeSteps.Model.{Step, W, E, Box, Heading, Memory, State, lift, begin}
 use Rattle.model.proofs.AnyNumbers.Engine.{Edges, EngineState, Given, HeadF, MemF, Move, place, finish}
 
 module _ {F : Type 0} (pt : ℕ → F) where
@@ -14,9 +14,6 @@ module _ {F : Type 0} (pt : ℕ → F) where
 
   abbrev pub boxEdges : Box → Edges F
   boxEdges f = edges (f .left) (f .top) (f .left + f .width) (f .top + f .height)
-
-  abbrev pub plateEdges : Plate → Edges F
-  plateEdges p = edges (p .left) (p .top) (p .right) (p .bottom)
 
 unfoldable pub moves : {F : Type 0} → (ℕ → F) → List Step → List (Move F)
 moves len [] = []
@@ -27,8 +24,8 @@ abbrev pub memOf : {F : Type 0} → (ℕ → F) → Memory → MemF F
 memOf len m = record { cols = map len (m .cols); rows = map len (m .rows) }
 
 module _ {F : Type 0} (pt len : ℕ → F) where
-  abbrev pub engineState : State → Plate → EngineState F
-  engineState s p = record { col = s .col; row = s .row; x = pt (s .x); y = pt (s .y); cols = map len (s .cols); rows = map len (s .rows); plate = plateEdges pt p }
+  abbrev pub engineState : State → EngineState F
+  engineState s = record { col = s .col; row = s .row; x = pt (s .x); y = pt (s .y); cols = map len (s .cols); rows = map len (s .rows) }
 
   abbrev pub givenOf : Bool → Heading → Memory → Given F
   givenOf b g m = record {
@@ -51,8 +48,6 @@ module _ {F : Type 0} (pt len : ℕ → F) where
     gapX = len (g .gapX);
     gapY = len (g .gapY);
     start = g .start;
-    seedX = pt (g .seedX);
-    seedY = pt (g .seedY);
   }
 
 -- ---- of the domain
@@ -95,20 +90,11 @@ pub record FineHeading (B : ℕ) (g : Heading) : Type 0 where
   pub minH : g .minH ≤ B
   pub gapX : g .gapX ≤ B
   pub gapY : g .gapY ≤ B
-  pub seedX : g .seedX ≤ 2 * B
-  pub seedY : g .seedY ≤ 2 * B
 
 -- frames
 pub data Boxes (B : ℕ) : List Box → Type 0 where
   none : Boxes B []
   more : {f : Box} {l : List Box} → f .left + f .width ≤ 2 * B → f .top + f .height ≤ 2 * B → Boxes B l → Boxes B (f ∷ l)
-
--- a plate
-pub record FinePlate (B : ℕ) (p : Plate) : Type 0 where
-  pub left : p .left ≤ 2 * B
-  pub top : p .top ≤ 2 * B
-  pub right : p .right ≤ 2 * B
-  pub bottom : p .bottom ≤ 2 * B
 
 -- a state
 pub record FineState (B : ℕ) (s : State) : Type 0 where
@@ -120,6 +106,3 @@ pub record FineState (B : ℕ) (s : State) : Type 0 where
 pub begin-fine : (B : ℕ) (g : Heading) → FineHeading B g → FineState B (begin g)
 unfolding begin
 begin-fine B g fg = record { x = fg .left; y = fg .top; cols = empty; rows = empty }
-
-pub seed-fine : (B : ℕ) (g : Heading) → FineHeading B g → FinePlate B (seed g)
-seed-fine B g fg = record { left = fg .seedX; top = fg .seedY; right = fg .seedX; bottom = fg .seedY }

@@ -6,12 +6,11 @@ use Prim.Native.Nat.{ℕ, zero, suc}
 use lib.ListN.{getD}
 use Rattle.model.proofs.AnyNumbers.EngineAnswers.{Answer, accepted, guard, on}
 
--- the numbers: zero, the lesser and the greater, half, to whole steps, "within the limit"
+-- the numbers: zero, the greater, half, to whole steps, "within the limit"
 pub record Ops (F : Type 0) : Type 0 where
   pub none : F
   pub add : F → F → F
   pub sub : F → F → F
-  pub low : F → F → F
   pub high : F → F → F
   pub half : F → F
   pub round : F → F
@@ -23,10 +22,6 @@ pub record Edges (F : Type 0) : Type 0 where
   pub top : F
   pub right : F
   pub bottom : F
-
--- min_rect with a frame
-unfoldable pub united : {F : Type 0} → Ops F → Edges F → Edges F → Edges F
-united o p f = record { left = o .low (p .left) (f .left); top = o .low (p .top) (f .top); right = o .high (p .right) (f .right); bottom = o .high (p .bottom) (f .bottom) }
 
 -- a record: a control, or a row's end
 pub data Move (F : Type 0) : Type 0 where
@@ -47,7 +42,7 @@ put f v a = on a (λ x. accepted (more f v x))
 
 -- ---- grids
 
--- where a pass is, what it has met, and min_rect
+-- where a pass is, and what it has met
 pub record EngineState (F : Type 0) : Type 0 where
   pub col : ℕ
   pub row : ℕ
@@ -55,7 +50,6 @@ pub record EngineState (F : Type 0) : Type 0 where
   pub y : F
   pub cols : List F
   pub rows : List F
-  pub plate : Edges F
 
 -- what a pass is given: initial_available's left edge, the minimum cell, the spacing, the memory
 pub record Given (F : Type 0) : Type 0 where
@@ -95,16 +89,15 @@ module _ {F : Type 0} (o : Ops F) where
       bottom = o .round (o .add (s .y) (o .high h (getD (g .rows) (s .row) (g .minH))));
     }
 
-    -- advance, and expand_to_include_rect
-    unfoldable pub advance : EngineState F → Edges F → Edges F → EngineState F
-    advance s f v = record {
+    -- advance
+    unfoldable pub advance : EngineState F → Edges F → EngineState F
+    advance s v = record {
       col = suc (s .col);
       row = s .row;
       x = o .add (s .x) (o .add (getD (g .cols) (s .col) (g .minW)) (g .gapX));
       y = s .y;
       cols = raise (s .cols) (s .col) (o .high (o .sub (v .right) (v .left)) (g .minW));
       rows = raise (s .rows) (s .row) (o .high (o .sub (v .bottom) (v .top)) (g .minH));
-      plate = united o (s .plate) f;
     }
 
     -- end_row
@@ -116,7 +109,6 @@ module _ {F : Type 0} (o : Ops F) where
       y = o .add (o .add (s .y) (g .gapY)) (getD (s .rows) (s .row) (g .minH));
       cols = s .cols;
       rows = s .rows;
-      plate = s .plate;
     }
 
     -- the records from a state on; n is the number of the first
@@ -127,10 +119,10 @@ module _ {F : Type 0} (o : Ops F) where
         (let f = nextCell s w h in
         guard 9 n (o .inside (f .right)) (guard 9 n (o .inside (f .bottom))
         (let v = widget f w h in
-        let t = advance s f v in guard 9 n (o .inside (t .x)) (put f v (runF also t (suc n) l)))))
+        let t = advance s v in guard 9 n (o .inside (t .x)) (put f v (runF also t (suc n) l)))))
     runF also s n (finish ∷ l) = guard 8 n (also s finish) (guard 9 n (o .inside (endRow s .y)) (runF also (endRow s) (suc n) l))
 
--- what H and G say of a grid: max_rect's corner, the minimum cell, the spacing, the start row, and the point where min_rect starts
+-- what H and G say of a grid: max_rect's corner, the minimum cell, the spacing, and the start row
 pub record HeadF (F : Type 0) : Type 0 where
   pub left : F
   pub top : F
@@ -139,8 +131,6 @@ pub record HeadF (F : Type 0) : Type 0 where
   pub gapX : F
   pub gapY : F
   pub start : ℕ
-  pub seedX : F
-  pub seedY : F
 
 pub record MemF (F : Type 0) : Type 0 where
   pub cols : List F
@@ -160,7 +150,6 @@ beginF h = record {
   y = h .top;
   cols = [];
   rows = [];
-  plate = record { left = h .seedX; top = h .seedY; right = h .seedX; bottom = h .seedY };
 }
 
 module _ {F : Type 0} (o : Ops F) (also : Given F → EngineState F → Move F → Bool) (h : HeadF F) (l : List (Move F)) where

@@ -1,7 +1,7 @@
 -- What numbers must satisfy for the engine to follow the model: `pt n` is the edge n steps from B steps before zero, `len n` the length of
 -- n steps, and sums, order and rounding of those with n at most 4 B are the whole numbers'. Nothing is said of larger ones. Assumes nothing.
 use mathlib.Core.Path.{_≡_}
-use Prim.Native.Nat.{ℕ, _+_, _-_, _*_, _≤_, min, max}
+use Prim.Native.Nat.{ℕ, _+_, _-_, _*_, _≤_, max}
 use lib.Dec.{T}
 use Rattle.model.proofs.WholeSteps.Halves.{rounded}
 use Rattle.model.proofs.AnyNumbers.Engine.{Ops}
@@ -11,8 +11,6 @@ pub record Exact {F : Type 0} (o : Ops F) (B : ℕ) (pt len : ℕ → F) : Type 
   pub add-pt : (a b : ℕ) → a + b ≤ 4 * B → o .add (pt a) (len b) ≡ pt (a + b)
   pub add-len : (a b : ℕ) → a + b ≤ 4 * B → o .add (len a) (len b) ≡ len (a + b)
   pub high-len : (a b : ℕ) → a ≤ 4 * B → b ≤ 4 * B → o .high (len a) (len b) ≡ len (max a b)
-  pub high-pt : (a b : ℕ) → a ≤ 4 * B → b ≤ 4 * B → o .high (pt a) (pt b) ≡ pt (max a b)
-  pub low-pt : (a b : ℕ) → a ≤ 4 * B → b ≤ 4 * B → o .low (pt a) (pt b) ≡ pt (min a b)
   pub sub-pt : (a b : ℕ) → b ≤ a → a ≤ 4 * B → o .sub (pt a) (pt b) ≡ len (a - b)
   pub back-pt : (a b : ℕ) → b ≤ a → a ≤ 4 * B → o .sub (pt a) (len b) ≡ pt (a - b)
   pub round-pt : (a : ℕ) → a ≤ 4 * B → o .round (pt a) ≡ pt a

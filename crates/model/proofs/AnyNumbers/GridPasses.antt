@@ -4,35 +4,31 @@ use mathlib.Core.Bool.{Bool, true, false, cond}
 use mathlib.Core.List.{List, map}
 use Prim.Native.Nat.{ℕ}
 use lib.ListN.{getD}
-use Rattle.model.proofs.WholeSteps.Model.{Step, seed, Heading, Memory, nothing, begin, frames, gridPass}
+use Rattle.model.proofs.WholeSteps.Model.{Step, Heading, Memory, nothing, begin, frames, gridPass}
 use Rattle.model.proofs.WholeSteps.Halves.{centred, centred-in-bounds}
 use Rattle.model.proofs.WholeSteps.Settled.{settled, memory-first}
 use Rattle.model.proofs.AnyNumbers.EngineAnswers.{accepted}
 use Rattle.model.proofs.AnyNumbers.Engine.{Ops, EngineState, Given, Move, Out, memoryF, givenF, passF, firstF, laterF}
 use Rattle.model.proofs.AnyNumbers.Exact.{Exact}
-use Rattle.model.proofs.AnyNumbers.Embedding.{boxEdges, plateEdges, headOf, memOf, moves, Upto, empty, Fits, FineHeading, Boxes, FinePlate, begin-fine, seed-fine}
+use Rattle.model.proofs.AnyNumbers.Embedding.{boxEdges, headOf, memOf, moves, Upto, empty, Fits, FineHeading, Boxes, begin-fine}
 use Rattle.model.proofs.AnyNumbers.GridRuns.{Same, run-is}
 
 -- the model's pass with the memory m, in the engine's numbers, all of the domain
 pub record PassIs {F : Type 0} (B : ℕ) (pt len : ℕ → F) (g : Heading) (l : List Step) (m : Memory) (r : Out F (EngineState F)) : Type 0 where
   pub frames-are : r .frames ≡ map (boxEdges pt) (gridPass (centred B) g l m .frames)
-  pub plate-is : r .last .plate ≡ plateEdges pt (gridPass (centred B) g l m .plate)
   pub memory-is : memoryF r ≡ memOf len (gridPass (centred B) g l m .memory)
   pub boxes : Boxes B (gridPass (centred B) g l m .frames)
-  pub plate-fine : FinePlate B (gridPass (centred B) g l m .plate)
   pub cols : Upto B (gridPass (centred B) g l m .memory .cols)
   pub rows : Upto B (gridPass (centred B) g l m .memory .rows)
 
 module _ {F : Type 0} {o : Ops F} {B : ℕ} {pt len : ℕ → F} (law : Exact o B pt len) (also : Given F → EngineState F → Move F → Bool) (g : Heading) (fg : FineHeading B g) where
   module _ (l : List Step) (f : Fits B l) where
-    from-same : (m : Memory) (r : Out F (EngineState F)) → Same B pt len g m (begin g) (seed g) l r → PassIs B pt len g l m r
+    from-same : (m : Memory) (r : Out F (EngineState F)) → Same B pt len g m (begin g) l r → PassIs B pt len g l m r
     unfolding gridPass
     from-same m r q = record {
       frames-are = q .frames-are;
-      plate-is = ap (λ (s : EngineState F). s .plate) (q .last-is);
       memory-is = ap (λ (s : EngineState F). record { cols = s .cols; rows = s .rows }) (q .last-is);
       boxes = q .boxes;
-      plate-fine = q .plate-fine;
       cols = q .state-fine .cols;
       rows = q .state-fine .rows;
     }
@@ -42,7 +38,7 @@ module _ {F : Type 0} {o : Ops F} {B : ℕ} {pt len : ℕ → F} (law : Exact o 
         → passF o also (headOf pt len g) (moves len l) b (memOf len m) ≡ accepted r → PassIs B pt len g l m r
     unfolding passF begin
     pass-is b m r mc mr unsized e =
-        from-same m r (run-is law b g m (also (givenF (headOf pt len g) b (memOf len m))) fg mc mr unsized (begin g) (seed g) 3 l r (begin-fine B g fg) (seed-fine B g fg) f e)
+        from-same m r (run-is law b g m (also (givenF (headOf pt len g) b (memOf len m))) fg mc mr unsized (begin g) 3 l r (begin-fine B g fg) f e)
 
     first-is : (a : Out F (EngineState F)) → firstF o also (headOf pt len g) (moves len l) ≡ accepted a → PassIs B pt len g l nothing a
     unfolding nothing

@@ -7,11 +7,11 @@ use Prim.Native.Nat.{ℕ, zero, suc, _+_, _-_, _*_, _≤_, max}
 use native.Mathlib.Omega.{arith}
 use native.Mathlib.Nat.{zero-max}
 use lib.ListN.{getD, List·getD-map}
-use Rattle.model.proofs.WholeSteps.Model.{Plate, include, Heading, Memory, State, lift, cell, afterW, afterE}
+use Rattle.model.proofs.WholeSteps.Model.{Heading, Memory, State, lift, afterW, afterE}
 use Rattle.model.proofs.WholeSteps.Halves.{rounded, centred, rounded-mono, rounded-le}
-use Rattle.model.proofs.AnyNumbers.Engine.{Ops, united, raise, nextCell, widget, advance, endRow}
+use Rattle.model.proofs.AnyNumbers.Engine.{Ops, raise, nextCell, widget, advance, endRow}
 use Rattle.model.proofs.AnyNumbers.Exact.{Exact}
-use Rattle.model.proofs.AnyNumbers.Embedding.{edges, engineState, givenOf, Upto, empty, upto, FineState, FinePlate}
+use Rattle.model.proofs.AnyNumbers.Embedding.{edges, engineState, givenOf, Upto, empty, upto, FineState}
 
 module _ {F : Type 0} {o : Ops F} {B : ℕ} {pt len : ℕ → F} (law : Exact o B pt len) where
   pub raise-is : {l : List ℕ} (i : ℕ) {v : ℕ} → v ≤ B → Upto B l → raise o (map len l) i (len v) ≡ map len (lift l i v)
@@ -25,8 +25,8 @@ module _ {F : Type 0} {o : Ops F} {B : ℕ} {pt len : ℕ → F} (law : Exact o 
   sized true n e = ap len e
   sized false n e = refl
 
-  module _ (b : Bool) (g : Heading) (m : Memory) (s : State) (p : Plate) where
-    pub end-is : s .y + g .gapY + getD (s .rows) (s .row) (g .minH) ≤ 4 * B → endRow o (givenOf pt len b g m) (engineState pt len s p) ≡ engineState pt len (afterE (centred B) g m s) p
+  module _ (b : Bool) (g : Heading) (m : Memory) (s : State) where
+    pub end-is : s .y + g .gapY + getD (s .rows) (s .row) (g .minH) ≤ 4 * B → endRow o (givenOf pt len b g m) (engineState pt len s) ≡ engineState pt len (afterE (centred B) g m s)
     unfolding endRow afterE
     end-is h = rw (List·getD-map len (s .rows) (s .row) (g .minH), law .add-pt (s .y) (g .gapY) (omega arith), law .add-pt (s .y + g .gapY) (getD (s .rows) (s .row) (g .minH)) (omega arith))
 
@@ -39,7 +39,7 @@ module _ {F : Type 0} {o : Ops F} {B : ℕ} {pt len : ℕ → F} (law : Exact o 
       fh = max h (getD (m .rows) (s .row) (g .minH))
 
       pub cell-is : cond b 0 (getD (m .cols) (s .col) 0) ≡ getD (m .cols) (s .col) 0 → s .x + fw ≤ 4 * B → s .y + fh ≤ 4 * B
-          → nextCell o (givenOf pt len b g m) (engineState pt len s p) (len w) (len h) ≡ edges pt (s .x) (s .y) (s .x + fw) (s .y + fh)
+          → nextCell o (givenOf pt len b g m) (engineState pt len s) (len w) (len h) ≡ edges pt (s .x) (s .y) (s .x + fw) (s .y + fh)
       unfolding nextCell
       cell-is q inX inY = rw (
         law .none-is,
@@ -68,12 +68,12 @@ module _ {F : Type 0} {o : Ops F} {B : ℕ} {pt len : ℕ → F} (law : Exact o 
           law .round-pt (s .x + w) (omega arith),
         )
 
-        pub control-is : s .x + getD (m .cols) (s .col) (g .minW) + g .gapX ≤ 4 * B → FineState B s → FinePlate B p → w ≤ B → g .minW ≤ B → g .minH ≤ B → centred B (s .y) fh h ≤ B
-            → advance o (givenOf pt len b g m) (engineState pt len s p) (edges pt (s .x) (s .y) (s .x + fw) (s .y + fh))
+        pub control-is : s .x + getD (m .cols) (s .col) (g .minW) + g .gapX ≤ 4 * B → FineState B s → w ≤ B → g .minW ≤ B → g .minH ≤ B → centred B (s .y) fh h ≤ B
+            → advance o (givenOf pt len b g m) (engineState pt len s)
             (edges pt (s .x) (rounded B (2 * s .y + (fh - h))) (s .x + w) (rounded B (2 * s .y + (fh - h) + 2 * h)))
-            ≡ engineState pt len (afterW (centred B) g m s w h) (include p (cell (centred B) g m s w h))
-        unfolding advance united afterW cell include centred
-        control-is inC fs fp wB mw mh tall =
+            ≡ engineState pt len (afterW (centred B) g m s w h)
+        unfolding advance afterW centred
+        control-is inC fs wB mw mh tall =
             let c = getD (m .cols) (s .col) (g .minW) in
             let a = rounded B (2 * s .y + (fh - h)) in
             let z = rounded B (2 * s .y + (fh - h) + 2 * h) in
@@ -92,8 +92,4 @@ module _ {F : Type 0} {o : Ops F} {B : ℕ} {pt len : ℕ → F} (law : Exact o 
               law .sub-pt z a (rounded-mono B _ _ (omega arith)) n,
               law .high-len (z - a) (g .minH) (omega arith) (omega arith),
               raise-is (s .row) {v = max (z - a) (g .minH)} (omega arith) (fs .rows),
-              law .low-pt (p .left) (s .x) (omega arith) (omega arith),
-              law .low-pt (p .top) (s .y) (omega arith) (omega arith),
-              law .high-pt (p .right) (s .x + fw) (omega arith) (omega arith),
-              law .high-pt (p .bottom) (s .y + fh) (omega arith) (omega arith),
             )

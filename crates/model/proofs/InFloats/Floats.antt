@@ -4,13 +4,13 @@ use mathlib.Core.Path.{_≡_, sym}
 use Prim.Native.Nat.{ℕ, _≤_}
 use native.Mathlib.Omega.{arith}
 use lib.Ieee.{Float, binary32, ofBits, add, sub, div, le}
-use Rattle.emath.specs.Rectangles.{zeroF, twoF, minF, maxF, roundUi}
+use Rattle.emath.specs.Rectangles.{zeroF, twoF, maxF, roundUi}
 use Rattle.emath.specs.Domain.{within}
 use Rattle.emath.specs.Steps.{most}
 use Rattle.emath.proofs.Zeros.{val-zero}
 use Rattle.model.proofs.AnyNumbers.Engine.{Ops}
 use Rattle.model.proofs.AnyNumbers.Exact.{Exact}
-use Rattle.model.proofs.InFloats.Ticks.{pt, len, cap, add-pt, add-len, sub-pt, back-pt, high-len, high-pt, low-pt, round-pt, le-pt, le-len, start-of, end-of, inside-pt, pt-inside, some-pt}
+use Rattle.model.proofs.InFloats.Ticks.{pt, len, cap, add-pt, add-len, sub-pt, back-pt, high-len, round-pt, le-pt, le-len, start-of, end-of, inside-pt, pt-inside, some-pt}
 
 -- with the step 1 / 2 ^ k point
 abbrev pub ops : ℕ → Ops Float
@@ -18,7 +18,6 @@ ops k = record {
   none = zeroF;
   add = add binary32;
   sub = sub binary32;
-  low = minF;
   high = maxF;
   half = λ x. div binary32 x twoF;
   round = roundUi k;
@@ -41,8 +40,6 @@ exact k B l b =
       add-pt = add-pt k B l′ c;
       add-len = add-len k B l′ c;
       high-len = high-len k B l′ c;
-      high-pt = high-pt k B l′ c;
-      low-pt = low-pt k B l′ c;
       sub-pt = sub-pt k B l′ c;
       back-pt = back-pt k B l′ c;
       round-pt = round-pt k B l′ c;

@@ -63,16 +63,6 @@ module _ (k B : ℕ) (l : k ≤ 149) (cap : 4 * B ≤ 16777216) where
       let e : maxZ (pos a) (pos b) ≡ pos (max a b) = omega (arith, whole, max-is (pos a) (pos b)) in
       val-max k l (pos a) (pos b) (small-len a g) (small-len b h) ∙ ap (val k) e
 
-  pub high-pt : (a b : ℕ) → a ≤ 4 * B → b ≤ 4 * B → maxF (pt k B a) (pt k B b) ≡ pt k B (max a b)
-  high-pt a b g h =
-      let e : maxZ (at B a) (at B b) ≡ at B (max a b) = omega (arith, whole, max-is (at B a) (at B b), at-parts B a, at-parts B b, at-parts B (max a b)) in
-      val-max k l (at B a) (at B b) (small-at a g) (small-at b h) ∙ ap (val k) e
-
-  pub low-pt : (a b : ℕ) → a ≤ 4 * B → b ≤ 4 * B → minF (pt k B a) (pt k B b) ≡ pt k B (min a b)
-  low-pt a b g h =
-      let e : minZ (at B a) (at B b) ≡ at B (min a b) = omega (arith, whole, min-is (at B a) (at B b), at-parts B a, at-parts B b, at-parts B (min a b)) in
-      val-min k l (at B a) (at B b) (small-at a g) (small-at b h) ∙ ap (val k) e
-
   pub round-pt : (a : ℕ) → a ≤ 4 * B → roundUi k (pt k B a) ≡ pt k B a
   round-pt a h = val-whole k (at B a) l (small-at a h)
 

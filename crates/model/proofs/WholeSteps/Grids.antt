@@ -1,13 +1,13 @@
--- Two grids, the second with larger controls: in the second pass no frame of it is less, and its plate is no smaller. There everything is
+-- Two grids, the second with larger controls: in the second pass no frame of it is less, and both open at one corner. There everything is
 -- monotone, since nothing depends on what was rounded. Assumes nothing.
 use mathlib.Core.Path.{refl}
 use mathlib.Core.List.{List, [], _∷_, Forall₂, Forall₂·nil, Forall₂·cons}
 use Prim.Native.Nat.{ℕ, suc, _+_, _≤_}
 use native.Mathlib.Omega.{arith}
 use native.Mathlib.Nat.{le-refl}
-use Rattle.model.proofs.WholeSteps.Model.{Step, W, E, Grown, control, end, NoLess, Larger, plateOf, Heading, Memory, State, begin, Rounding, InBounds, cell, afterW, afterE, frames, gridPass, seed}
+use Rattle.model.proofs.WholeSteps.Model.{Step, W, E, Grown, control, end, box, NoLess, Heading, Memory, State, begin, Rounding, InBounds, cell, afterW, afterE, frames, gridPass}
 use Rattle.model.proofs.WholeSteps.Lists.{Le, Le-getD, Le-lift, max-mono}
-use Rattle.model.proofs.WholeSteps.Plates.{From, more, Opening, one, grows, plate-grows, upright}
+use Rattle.model.proofs.WholeSteps.Openings.{From, more, Opening, one}
 use Rattle.model.proofs.WholeSteps.Heights.{rowsFrom}
 use Rattle.model.proofs.WholeSteps.Settled.{colsFrom, plain, settled, frames-settled}
 
@@ -32,6 +32,9 @@ rows-grow m r p (control u v t) = rows-grow m r (Le-lift r p (max-mono v (le-ref
 rows-grow m r p (end t) = rows-grow m (suc r) p t
 
 -- ---- so do the frames, where nothing is rounded
+
+grows : {x y w h x′ y′ w′ h′ : ℕ} → x ≤ x′ → y ≤ y′ → w ≤ w′ → h ≤ h′ → NoLess (box x y w h) (box x′ y′ w′ h′)
+grows a b c d = record { left = a; top = b; width = c; height = d }
 
 abbrev state : ℕ → ℕ → ℕ → ℕ → List ℕ → List ℕ → State
 state c r x y a b = record { col = c; row = r; x = x; y = y; cols = a; rows = b }
@@ -72,15 +75,11 @@ module _ (tall : Rounding) (bounds : InBounds tall) (g : Heading) {k l : List St
       frames-grow g (settled g k) (settled g l) (cols-grow (g .minW) 0 Forall₂·nil h) (rows-grow (g .minH) (g .start) Forall₂·nil h)
       0 (g .start) (g .left) (g .left) (g .top) (g .top) [] [] [] [] (le-refl (g .left)) (le-refl (g .top)) Forall₂·nil h
 
-  plain-plate : Larger (plateOf (seed g) (frames plain g (settled g k) (begin g) k)) (plateOf (seed g) (frames plain g (settled g l) (begin g) l))
+  plain-open : Opening (frames plain g (settled g k) (begin g) k) (frames plain g (settled g l) (begin g) l)
   unfolding begin
-  plain-plate = plate-grows (seed g) (opening g (settled g k) (settled g l) 0 (g .start) (g .top) [] [] h) plain-grow
+  plain-open = opening g (settled g k) (settled g l) 0 (g .start) (g .top) [] [] h
 
   pub grids-grow : Forall₂ NoLess (gridPass tall g k (settled g k) .frames) (gridPass tall g l (settled g l) .frames)
-      × Larger (gridPass tall g k (settled g k) .plate) (gridPass tall g l (settled g l) .plate)
+      × Opening (gridPass tall g k (settled g k) .frames) (gridPass tall g l (settled g l) .frames)
   unfolding gridPass
-  grids-grow = rw (frames-settled tall bounds g k, frames-settled tall bounds g l) (plain-grow, plain-plate)
-
-pub pass-upright : (tall : Rounding) (g : Heading) (l : List Step) (m : Memory) → (gridPass tall g l m .plate .left ≤ gridPass tall g l m .plate .right) × (gridPass tall g l m .plate .top ≤ gridPass tall g l m .plate .bottom)
-unfolding gridPass
-pass-upright tall g l m = upright (seed g) (frames tall g m (begin g) l) (omega arith) (omega arith)
+  grids-grow = rw (frames-settled tall bounds g k, frames-settled tall bounds g l) (plain-grow, plain-open)

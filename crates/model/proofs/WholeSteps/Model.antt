@@ -1,7 +1,7 @@
--- A pass over a sheet of controls and row ends, in whole steps: the frames, the plate and the memory that it gives. An edge is counted
--- from a line 65,536 points before zero, so that every edge of the domain is a natural number. Assumes nothing.
+-- A pass over a sheet of controls and row ends, in whole steps: the frames and the memory that it gives. An edge is counted from a line
+-- 65,536 points before zero, so that every edge of the domain is a natural number. Assumes nothing.
 use mathlib.Core.List.{List, [], _∷_}
-use Prim.Native.Nat.{ℕ, zero, suc, _+_, _-_, _≤_, min, max}
+use Prim.Native.Nat.{ℕ, zero, suc, _+_, _≤_, max}
 use lib.ListN.{getD}
 
 -- A record of such a sheet: a control with its width and height, or a row's end.
@@ -32,27 +32,9 @@ pub record NoLess (a b : Box) : Type 0 where
   pub width : a .width ≤ b .width
   pub height : a .height ≤ b .height
 
--- min_rect, by its edges
-pub record Plate : Type 0 where
-  pub left : ℕ
-  pub top : ℕ
-  pub right : ℕ
-  pub bottom : ℕ
-
-unfoldable pub include : Plate → Box → Plate
-include p f = record { left = min (p .left) (f .left); top = min (p .top) (f .top); right = max (p .right) (f .left + f .width); bottom = max (p .bottom) (f .top + f .height) }
-
-unfoldable pub plateOf : Plate → List Box → Plate
-plateOf p [] = p
-plateOf p (f ∷ l) = plateOf (include p f) l
-
-pub record Larger (p q : Plate) : Type 0 where
-  pub width : p .right - p .left ≤ q .right - q .left
-  pub height : p .bottom - p .top ≤ q .bottom - q .top
-
 -- ---- grids
 
--- max_rect's left top corner, the minimum cell, the spacing, the start row, and the point where min_rect starts
+-- max_rect's left top corner, the minimum cell, the spacing, and the start row
 pub record Heading : Type 0 where
   pub left : ℕ
   pub top : ℕ
@@ -61,11 +43,6 @@ pub record Heading : Type 0 where
   pub gapX : ℕ
   pub gapY : ℕ
   pub start : ℕ
-  pub seedX : ℕ
-  pub seedY : ℕ
-
-abbrev pub seed : Heading → Plate
-seed g = record { left = g .seedX; top = g .seedY; right = g .seedX; bottom = g .seedY }
 
 pub record Memory : Type 0 where
   pub cols : List ℕ
@@ -133,13 +110,11 @@ module _ (tall : Rounding) (g : Heading) (m : Memory) where
 -- what a pass gives
 pub record Pass : Type 0 where
   pub frames : List Box
-  pub plate : Plate
   pub memory : Memory
 
 unfoldable pub gridPass : Rounding → Heading → List Step → Memory → Pass
-unfolding begin frames final plateOf
+unfolding begin frames final
 gridPass tall g l m = record {
   frames = frames tall g m (begin g) l;
-  plate = plateOf (seed g) (frames tall g m (begin g) l);
   memory = record { cols = final tall g m (begin g) l .cols; rows = final tall g m (begin g) l .rows };
 }

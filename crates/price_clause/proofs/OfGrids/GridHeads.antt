@@ -1,17 +1,15 @@
 -- Where an accepted pass of a grid begins is the engine's beginning, and in whole steps it is the model's: max_rect's corner, the minimum
--- cell, the spacing, the start row, and the one point where min_rect starts. Assumes nothing.
+-- cell, the spacing, and the start row. Assumes nothing.
 use Prim.Native.Nat.{ℕ, _≤_}
 use mathlib.Core.Path.{_≡_, refl, ap, sym, _∙_}
 use mathlib.Core.Bool.{Bool, true, false, cond, true≢false}
 use lib.Ieee.{Float, lt, ne}
 use Rattle.emath.specs.Rectangles.{maxF, intersect}
 use Rattle.emath.specs.Refusals.{sizeFault}
-use Rattle.emath.specs.Steps.{Edge, most}
+use Rattle.emath.specs.Steps.{most}
 use Rattle.emath.specs.declared.Rect.{Rect}
 use Rattle.emath.specs.declared.Vec2.{Vec2}
 use Rattle.layout.specs.Rules.{initialCursor, regionFromMaxRect}
-use Rattle.region.specs.Steps.{OnePoint}
-use Rattle.layout.proofs.Seeds.{region-from-max-rect-seeded}
 use Rattle.region.specs.declared.Direction.{Direction}
 use Rattle.region.specs.declared.Direction.the-variants.{LeftToRight, RightToLeft, TopDown, BottomUp}
 use Rattle.region.specs.declared.Region.{Region}
@@ -21,7 +19,7 @@ use Rattle.grid.specs.Refusals.{fitsGrid}
 use Rattle.grid.specs.declared.Memory.{Memory}
 use Rattle.grid.specs.declared.GridLayout.{GridLayout}
 use Rattle.placer.specs.Rules.{newPlacer}
-use Rattle.placer.proofs.Answers.{placer-region, placer-grid}
+use Rattle.placer.proofs.Answers.{placer-grid}
 use Rattle.model.proofs.WholeSteps.Model as model
 use Rattle.model.proofs.AnyNumbers.Engine.{HeadF, givenF, beginF}
 use Rattle.model.proofs.AnyNumbers.Embedding.{headOf, FineHeading}
@@ -60,7 +58,7 @@ max-self x = go (lt x x) (ne x x)
     go false false = refl
 
 -- ---- a new grid in a region that starts at m's corner
-module _ (g : Region) (m : Rect) (sp smallest : Vec2) (start : ℕ) where
+module _ (m : Rect) (sp smallest : Vec2) (start : ℕ) where
   abbrev head : HeadF Float
   head = record {
     left = m .left;
@@ -70,17 +68,15 @@ module _ (g : Region) (m : Rect) (sp smallest : Vec2) (start : ℕ) where
     gapX = sp .x;
     gapY = sp .y;
     start = start;
-    seedX = g .«min_rect» .left;
-    seedY = g .«min_rect» .top;
   }
 
-  module _ (known : Bool) (mem : Memory) (sizing : Bool) (largest : Vec2) (columns : ℕ) where
+  module _ (g : Region) (known : Bool) (mem : Memory) (sizing : Bool) (largest : Vec2) (columns : ℕ) where
     abbrev grid : GridLayout
     grid = newGrid g known mem sizing sp smallest largest columns start
 
-    new-state : g .cursor .left ≡ m .left → g .cursor .top ≡ m .top → OnePoint (g .«min_rect») → engineStateAt grid (g .cursor) (g .«min_rect») ≡ beginF head
+    new-state : g .cursor .left ≡ m .left → g .cursor .top ≡ m .top → engineStateAt grid (g .cursor) ≡ beginF head
     unfolding newGrid
-    new-state x y p = rw (x, y, ← (p .across), ← (p .down))
+    new-state x y = rw (x, y)
 
     new-given : g .«max_rect» ≡ m → g .cursor .left ≡ m .left → givenOf grid ≡ givenF head sizing (record { cols = widths (knownMemory known mem); rows = heights (knownMemory known mem) })
     unfolding newGrid intersect
@@ -92,7 +88,7 @@ begins k s = regionFromMaxRect k (s .heading .layout) (s .heading .«max_rect»)
 
 abbrev pub headOfSheet : ℕ → Sheet → HeadF Float
 headOfSheet k s =
-    head (begins k s) (s .heading .«max_rect») (s .heading .spacing) (s .heading .options .«min_cell_size») (s .heading .options .«start_row»)
+    head (s .heading .«max_rect») (s .heading .spacing) (s .heading .options .«min_cell_size») (s .heading .options .«start_row»)
 
 region-max : (k : ℕ) (s : Sheet) → begins k s .«max_rect» ≡ s .heading .«max_rect»
 unfolding regionFromMaxRect
@@ -106,22 +102,15 @@ region-cursor k s = refl
 pub record Begun (k : ℕ) (s : Sheet) : Type 0 where
   pub direction : fitsGrid (s .heading .layout .«main_dir») ≡ true
   pub smallest : sizeFault (s .heading .options .«min_cell_size») ≡ 0
-  pub point : OnePoint (begins k s .«min_rect»)
-  pub left : Edge k (begins k s .«min_rect» .left)
-  pub top : Edge k (begins k s .«min_rect» .top)
 
 module _ (k : ℕ) (l : k ≤ 6) (s : Sheet) (known : Bool) (m : Memory) (sizing : Bool) where
   pub begun : GridPass k s known m sizing → Begun k s
   unfolding newPlacer newGrid
   begun p =
       let q = gridStart k s known m sizing in
-      let a = region-from-max-rect-seeded k l (s .heading .layout) (s .heading .«max_rect») (placer-region (start k s known m sizing) (p .begin)) in
       record {
         direction = grid-direction q refl (p .fault);
         smallest = least-cell (q .grid) (placer-grid q refl (p .fault));
-        point = a .point;
-        left = a .whole .left;
-        top = a .whole .top;
       }
 
   module _ (p : Begun k s) where
@@ -133,11 +122,11 @@ module _ (k : ℕ) (l : k ≤ 6) (s : Sheet) (known : Bool) (m : Memory) (sizing
 
     pub begin-state : engineStateOf (gridStart k s known m sizing) ≡ beginF (headOfSheet k s)
     unfolding newPlacer
-    begin-state = new-state (begins k s) (s .heading .«max_rect») (s .heading .spacing) (s .heading .options .«min_cell_size») (s .heading .options .«start_row») known m sizing (s .heading .options .«max_cell_size») (s .heading .options .«num_columns») left-is top-is (p .point)
+    begin-state = new-state (s .heading .«max_rect») (s .heading .spacing) (s .heading .options .«min_cell_size») (s .heading .options .«start_row») (begins k s) known m sizing (s .heading .options .«max_cell_size») (s .heading .options .«num_columns») left-is top-is
 
     pub begin-given : givenOf (gridStart k s known m sizing .grid) ≡ givenF (headOfSheet k s) sizing (record { cols = widths (knownMemory known m); rows = heights (knownMemory known m) })
     unfolding newPlacer
-    begin-given = new-given (begins k s) (s .heading .«max_rect») (s .heading .spacing) (s .heading .options .«min_cell_size») (s .heading .options .«start_row») known m sizing (s .heading .options .«max_cell_size») (s .heading .options .«num_columns») (region-max k s) left-is
+    begin-given = new-given (s .heading .«max_rect») (s .heading .spacing) (s .heading .options .«min_cell_size») (s .heading .options .«start_row») (begins k s) known m sizing (s .heading .options .«max_cell_size») (s .heading .options .«num_columns») (region-max k s) left-is
 
 -- ---- in whole steps
 module _ (k B : ℕ) (l : k ≤ 6) (b : B ≡ most k) where
@@ -146,10 +135,10 @@ module _ (k B : ℕ) (l : k ≤ 6) (b : B ≡ most k) where
     pub fine : FineHeading B heading
     pub is : h ≡ headOf (pt k B) (len k) heading
 
-  heads : (g : model.Heading) (left top minW minH gapX gapY seedX seedY : Float) → left ≡ pt k B (g .left) → top ≡ pt k B (g .top) → minW ≡ len k (g .minW) → minH ≡ len k (g .minH) → gapX ≡ len k (g .gapX)
-      → gapY ≡ len k (g .gapY) → seedX ≡ pt k B (g .seedX) → seedY ≡ pt k B (g .seedY)
-      → record { left = left; top = top; minW = minW; minH = minH; gapX = gapX; gapY = gapY; start = g .start; seedX = seedX; seedY = seedY } ≡ headOf (pt k B) (len k) g
-  heads g left top minW minH gapX gapY seedX seedY el et ew eh ex ey sx sy = rw (el, et, ew, eh, ex, ey, sx, sy)
+  heads : (g : model.Heading) (left top minW minH gapX gapY : Float) → left ≡ pt k B (g .left) → top ≡ pt k B (g .top) → minW ≡ len k (g .minW) → minH ≡ len k (g .minH) → gapX ≡ len k (g .gapX)
+      → gapY ≡ len k (g .gapY)
+      → record { left = left; top = top; minW = minW; minH = minH; gapX = gapX; gapY = gapY; start = g .start } ≡ headOf (pt k B) (len k) g
+  heads g left top minW minH gapX gapY el et ew eh ex ey = rw (el, et, ew, eh, ex, ey)
 
   pub sheet-headed : (s : Sheet) → WholeSheet k s → NoNegativeSpacing s → Begun k s → Headed (headOfSheet k s)
   sheet-headed s w n p =
@@ -160,8 +149,6 @@ module _ (k B : ℕ) (l : k ≤ 6) (b : B ≡ most k) where
       let minH = length-counted k B l b (w .smallest .y) (a .1) in
       let gapX = gap-counted k B l b (w .spacing .x) (n .across) in
       let gapY = gap-counted k B l b (w .spacing .y) (n .down) in
-      let seedX = edge-counted k B l b (p .left) in
-      let seedY = edge-counted k B l b (p .top) in
       let g : model.Heading = record {
         left = left .count;
         top = top .count;
@@ -170,11 +157,9 @@ module _ (k B : ℕ) (l : k ≤ 6) (b : B ≡ most k) where
         gapX = gapX .count;
         gapY = gapY .count;
         start = s .heading .options .«start_row»;
-        seedX = seedX .count;
-        seedY = seedY .count;
       } in
       record {
         heading = g;
-        fine = record { left = left .few; top = top .few; minW = minW .few; minH = minH .few; gapX = gapX .few; gapY = gapY .few; seedX = seedX .few; seedY = seedY .few };
-        is = heads g _ _ _ _ _ _ _ _ (left .is) (top .is) (minW .is) (minH .is) (gapX .is) (gapY .is) (seedX .is) (seedY .is);
+        fine = record { left = left .few; top = top .few; minW = minW .few; minH = minH .few; gapX = gapX .few; gapY = gapY .few };
+        is = heads g _ _ _ _ _ _ (left .is) (top .is) (minW .is) (minH .is) (gapX .is) (gapY .is);
       }

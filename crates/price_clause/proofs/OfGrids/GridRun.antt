@@ -33,7 +33,7 @@ abbrev pub always : {F : Type 0} → EngineState F → Move F → Bool
 always s m = true
 
 module _ {F : Type 0} (o : Ops F) (g : Given F) (s : EngineState F) (n : ℕ) (l : List (Move F)) (r : Out F (EngineState F)) where
-  placed : (w h : F) (f v : Edges F) (t : EngineState F) → f ≡ engine.nextCell o g s w h → v ≡ engine.widget o f w h → t ≡ engine.advance o g s f v
+  placed : (w h : F) (f v : Edges F) (t : EngineState F) → f ≡ engine.nextCell o g s w h → v ≡ engine.widget o f w h → t ≡ engine.advance o g s v
       → T (o .inside (f .right)) → T (o .inside (f .bottom)) → T (o .inside (t .x)) → runF o g always t (suc n) l ≡ accepted r
       → runF o g always s n (place w h ∷ l) ≡ accepted (more f v r)
   unfolding runF guard on

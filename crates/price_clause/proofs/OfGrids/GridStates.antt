@@ -7,7 +7,7 @@ use native.Mathlib.Omega.{arith}
 use lib.ListN.{getD}
 use lib.Ieee.{Float}
 use Rattle.pass_laws.proofs.Lists.{entry-get, list-raised}
-use Rattle.emath.specs.Rectangles.{zeroF, maxF, width, height, isInfinite, union, centred, alignedTo, alignOn, alignWithin, roundRect}
+use Rattle.emath.specs.Rectangles.{zeroF, maxF, width, height, isInfinite, centred, alignedTo, alignOn, alignWithin, roundRect}
 use Rattle.emath.proofs.Tests.{is-lt}
 use Rattle.emath.specs.declared.Rect.{Rect}
 use Rattle.emath.specs.declared.Vec2.{Vec2}
@@ -18,18 +18,18 @@ use Rattle.grid.proofs.Advances.{Sound}
 use Rattle.grid.specs.declared.Memory.{Memory}
 use Rattle.grid.specs.declared.GridLayout.{GridLayout}
 use Rattle.placer.specs.declared.Placer.{Placer}
-use Rattle.model.proofs.AnyNumbers.Engine.{Edges, EngineState, Given, raise, united, widget, nextCell, advance, endRow}
+use Rattle.model.proofs.AnyNumbers.Engine.{Edges, EngineState, Given, raise, widget, nextCell, advance, endRow}
 use Rattle.model.proofs.InFloats.Floats.{ops}
 
 -- ---- the view
 abbrev pub edgesOf : Rect → Edges Float
 edgesOf r = record { left = r .left; top = r .top; right = r .right; bottom = r .bottom }
 
-abbrev pub engineStateAt : GridLayout → Rect → Rect → EngineState Float
-engineStateAt g c m = record { col = g .col; row = g .row; x = c .left; y = c .top; cols = widths (g .«curr_state»); rows = heights (g .«curr_state»); plate = edgesOf m }
+abbrev pub engineStateAt : GridLayout → Rect → EngineState Float
+engineStateAt g c = record { col = g .col; row = g .row; x = c .left; y = c .top; cols = widths (g .«curr_state»); rows = heights (g .«curr_state») }
 
 abbrev pub engineStateOf : Placer → EngineState Float
-engineStateOf p = engineStateAt (p .grid) (p .region .cursor) (p .region .«min_rect»)
+engineStateOf p = engineStateAt (p .grid) (p .region .cursor)
 
 abbrev pub givenOf : GridLayout → Given Float
 givenOf g = record {
@@ -70,17 +70,17 @@ pub aligned-is : (k : ℕ) (s : Vec2) (f : Rect) → isInfinite (s .x) ≡ false
 unfolding alignSizeWithinRect alignWithin alignOn alignedTo centred roundRect widget
 aligned-is k s f x y = rw (x, y)
 
-module _ (k : ℕ) (g : GridLayout) (c m : Rect) where
-  pub cell-is : (s : Vec2) → edgesOf (grid-rules.nextCell k g c s) ≡ nextCell (ops k) (givenOf g) (engineStateAt g c m) (s .x) (s .y)
+module _ (k : ℕ) (g : GridLayout) (c : Rect) where
+  pub cell-is : (s : Vec2) → edgesOf (grid-rules.nextCell k g c s) ≡ nextCell (ops k) (givenOf g) (engineStateAt g c) (s .x) (s .y)
   unfolding grid-rules.nextCell nextWidth prevRowHeight roundRect nextCell
   cell-is s = rw (width-is (g .«prev_state») (g .col) zeroF, height-is (g .«prev_state») (g .row) (g .«min_cell_size» .y))
 
-  pub advanced-is : (f v : Rect) → Sound (g .«curr_state») → g .col < 32 → g .row < 128
-      → engineStateAt (advanced g c v .grid) (advanced g c v .cursor) (union m f) ≡ advance (ops k) (givenOf g) (engineStateAt g c m) (edgesOf f) (edgesOf v)
-  unfolding advanced prevColWidth union united advance
-  advanced-is f v s i j = rw (next (g .col), width-is (g .«prev_state») (g .col) (g .«min_cell_size» .x), widths-noted k g v s i j, heights-noted k g v s i j)
+  pub advanced-is : (v : Rect) → Sound (g .«curr_state») → g .col < 32 → g .row < 128
+      → engineStateAt (advanced g c v .grid) (advanced g c v .cursor) ≡ advance (ops k) (givenOf g) (engineStateAt g c) (edgesOf v)
+  unfolding advanced prevColWidth advance
+  advanced-is v s i j = rw (next (g .col), width-is (g .«prev_state») (g .col) (g .«min_cell_size» .x), widths-noted k g v s i j, heights-noted k g v s i j)
 
-  pub ended-is : engineStateAt (rowEnded g c .grid) (rowEnded g c .cursor) m ≡ endRow (ops k) (givenOf g) (engineStateAt g c m)
+  pub ended-is : engineStateAt (rowEnded g c .grid) (rowEnded g c .cursor) ≡ endRow (ops k) (givenOf g) (engineStateAt g c)
   unfolding rowEnded endRow
   ended-is = rw (next (g .row), height-is (g .«curr_state») (g .row) (g .«min_cell_size» .y))
 

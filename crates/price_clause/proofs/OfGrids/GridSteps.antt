@@ -58,14 +58,14 @@ pub record InGrid (p : Placer) : Type 0 where
   pub sound : Sound (p .grid .«curr_state»)
 
 past-state : (sp : Vec2) (p : Placer) (c : Cell) → p .«has_grid» ≡ true → p .grid .col < 32 → p .grid .row < 128
-    → engineStateOf (pastCell sp p c) ≡ engineStateAt (advanced (p .grid) (p .region .cursor) (c .widget) .grid) (advanced (p .grid) (p .region .cursor) (c .widget) .cursor) (union (p .region .«min_rect») (c .frame))
+    → engineStateOf (pastCell sp p c) ≡ engineStateAt (advanced (p .grid) (p .region .cursor) (c .widget) .grid) (advanced (p .grid) (p .region .cursor) (c .widget) .cursor)
 unfolding advanceAfterRects movedPast setCursor expandToIncludeRect regions.expandToIncludeRect grid-rules.advance
 past-state sp p c g i j = rw (g, is-lt (p .grid .col) 32 i, is-lt (p .grid .row) 128 j)
 
 pub record CellMove (k : ℕ) (p q : Placer) (w h : Float) (c : Cell) : Type 0 where
   pub frame : edgesOf (c .frame) ≡ engine.nextCell (ops k) (givenOf (p .grid)) (engineStateOf p) w h
   pub widget : edgesOf (c .widget) ≡ engine.widget (ops k) (edgesOf (c .frame)) w h
-  pub after : engineStateOf q ≡ engine.advance (ops k) (givenOf (p .grid)) (engineStateOf p) (edgesOf (c .frame)) (edgesOf (c .widget))
+  pub after : engineStateOf q ≡ engine.advance (ops k) (givenOf (p .grid)) (engineStateOf p) (edgesOf (c .widget))
   pub given : givenOf (q .grid) ≡ givenOf (p .grid)
   pub right : T (within (c .frame .right))
   pub bottom : T (within (c .frame .bottom))
@@ -82,9 +82,9 @@ cell-move k sp p i s x y h =
     let w = edges-within (c .frame) (a .placed .frame) in
     let q = widgetStep sp p s c .placer in
     record {
-      frame = ap edgesOf (frame-is k sp p s (i .grid)) ∙ cell-is k g (r .cursor) (r .«min_rect») s;
+      frame = ap edgesOf (frame-is k sp p s (i .grid)) ∙ cell-is k g (r .cursor) s;
       widget = ap edgesOf (widget-is k sp p s (i .grid) ∙ ap (λ (f : Rect). grid-rules.alignSizeWithinRect k s f) (sym (frame-is k sp p s (i .grid)))) ∙ aligned-is k s (c .frame) x y;
-      after = ap engineStateOf (a .placed .placer) ∙ past-state sp p c (i .grid) (a .col) (a .row) ∙ advanced-is k g (r .cursor) (r .«min_rect») (c .frame) (c .widget) (i .sound) (a .col) (a .row);
+      after = ap engineStateOf (a .placed .placer) ∙ past-state sp p c (i .grid) (a .col) (a .row) ∙ advanced-is k g (r .cursor) (c .widget) (i .sound) (a .col) (a .row);
       given = ap givenOf (a .grid) ∙ advanced-given g (r .cursor) (c .widget);
       right = w .right;
       bottom = w .bottom;
@@ -94,7 +94,7 @@ cell-move k sp p i s x y h =
 
 -- ---- and so is an accepted E
 end-state : (sp : Vec2) (p : Placer) → p .«has_grid» ≡ true → p .grid .row < 128
-    → engineStateOf (endRow p sp) ≡ engineStateAt (rowEnded (p .grid) (p .region .cursor) .grid) (rowEnded (p .grid) (p .region .cursor) .cursor) (p .region .«min_rect»)
+    → engineStateOf (endRow p sp) ≡ engineStateAt (rowEnded (p .grid) (p .region .cursor) .grid) (rowEnded (p .grid) (p .region .cursor) .cursor)
 unfolding endRow setCursor grid-rules.endRow
 end-state sp p g j = rw (g, is-lt (p .grid .row) 128 j)
 
@@ -114,7 +114,7 @@ row-move k sp p i h =
     let r = p .region in
     let a = row-ended sp p (i .grid) h in
     record {
-      after = ap engineStateOf (a .is) ∙ end-state sp p (i .grid) (a .row) ∙ ended-is k g (r .cursor) (r .«min_rect»);
+      after = ap engineStateOf (a .is) ∙ end-state sp p (i .grid) (a .row) ∙ ended-is k g (r .cursor);
       given = ap givenOf (a .grid) ∙ ended-given g (r .cursor);
       top = cursor-within (checkedEndRow p sp .placer) (a .still) (ap placerFault (a .is) ∙ a .fault) .1;
       inside = record { grid = a .still; sound = rw (a .grid) (ended-sound g (r .cursor) (i .sound)) };

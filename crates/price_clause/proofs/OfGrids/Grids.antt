@@ -16,19 +16,20 @@ use Rattle.model.proofs.AnyNumbers.Engine.{EngineState, Given, Move, Out, HeadF
 use Rattle.model.proofs.AnyNumbers.Embedding.{moves, headOf, FineHeading, Fits}
 use Rattle.model.proofs.InFloats.Ticks.{pt, len}
 use Rattle.model.proofs.InFloats.Floats.{ops}
-use Rattle.model.proofs.InFloats.InTicks.{ticks, Frame≤, Plate≤, grids-in-ticks}
-use Rattle.sheet.specs.Pass.{Sheet, Cell, Ran, runFrom, plateOf, pass}
+use Rattle.model.proofs.InFloats.InTicks.{Frame≤, Opened, grids-in-ticks}
+use Rattle.sheet.specs.Pass.{Sheet, Cell, Ran, runFrom, pass}
 use Rattle.sheet.specs.Passes.{passes}
 use Rattle.pass_laws.specs.WholeSheets.{WholeSheet}
-use Rattle.price_clause.specs.Sheets.{GrownSheet, NoNegativeSpacing, FrameNoLess, PlateNoLess}
+use Rattle.price_clause.specs.Sheets.{GrownSheet, NoNegativeSpacing, FrameNoLess}
 use Rattle.sheet.specs.Ticks.{inTicks}
 use Rattle.sheet.proofs.Passes.{GridPass, grid-pass, start, gridStart}
 use Rattle.pass_laws.proofs.ColumnLaw.{saved-is}
+use Rattle.price_clause.proofs.Plates.{Open}
 use Rattle.price_clause.proofs.OfGrids.GridStates.{edgesOf, givenOf}
 use Rattle.price_clause.proofs.OfGrids.GridSteps.{InGrid}
 use Rattle.price_clause.proofs.OfGrids.GridRun.{always, Counts, outOf, Follows, run-follows}
 use Rattle.price_clause.proofs.OfGrids.GridCounts.{counts-fit, Both, both-counted}
-use Rattle.price_clause.proofs.OfGrids.TickOrders.{frameTicks, frames-no-less, plate-no-less}
+use Rattle.price_clause.proofs.OfGrids.TickOrders.{frameTicks, frames-no-less, frames-open}
 use Rattle.price_clause.proofs.OfGrids.GridHeads.{headOfSheet, begun, begin-state, begin-given, sheet-headed}
 
 -- nothing but the engine's own tests turns it back
@@ -57,7 +58,6 @@ record ByEngine (k : ℕ) (s : Sheet) (none : Memory) (ms : List model.Step) (h 
   pub first : firstF (ops k) yes h (moves (len k) ms) ≡ accepted one
   pub second : laterF (ops k) yes h (moves (len k) ms) (memoryF one) ≡ accepted two
   pub frames : two .frames ≡ map (λ (x : Cell). edgesOf (x .frame)) (passes k s none 1 .cells)
-  pub plate : two .last .plate ≡ edgesOf (passes k s none 1 .plate)
 
 module _ (k B : ℕ) (l : k ≤ 6) (b : B ≡ most k) (s : Sheet) (ms : List model.Step) (c : Counts k B (s .steps) ms) where
   module _ (known : Bool) (m : Memory) (sizing : Bool) (p : GridPass k s known m sizing) where
@@ -107,12 +107,8 @@ module _ (k B : ℕ) (l : k ≤ 6) (b : B ≡ most k) (s : Sheet) (ms : List mod
     unfolding passes
     frames-are = ap (map (λ (x : Cell). edgesOf (x .frame))) (sym (second-pass k s none g two .cells))
 
-    plate-is : secondOut .last .plate ≡ edgesOf (passes k s none 1 .plate)
-    unfolding passes plateOf
-    plate-is = ap edgesOf (sym (second-pass k s none g two .plate))
-
     by-engine : ByEngine k s none ms (headOfSheet k s)
-    by-engine = record { one = firstOut; two = secondOut; first = first-is; second = second-is; frames = frames-are; plate = plate-is }
+    by-engine = record { one = firstOut; two = secondOut; first = first-is; second = second-is; frames = frames-are }
 
 -- ---- the clause
 head-same : (k : ℕ) (a b : Sheet) → GrownSheet a b → headOfSheet k b ≡ headOfSheet k a
@@ -135,13 +131,13 @@ module _ (k B : ℕ) (l : k ≤ 6) (e : B ≡ most k) (a b : Sheet) (m m′ : Me
   abbrev Clause : Type 0
   Clause =
       Forall₂ Frame≤ (frameTicks k (passes k a m 1 .cells)) (frameTicks k (passes k b m′ 1 .cells))
-      × Plate≤ (ticks k (edgesOf (passes k a m 1 .plate))) (ticks k (edgesOf (passes k b m′ 1 .plate)))
+      × Opened (frameTicks k (passes k a m 1 .cells)) (frameTicks k (passes k b m′ 1 .cells))
 
   of-engine : (g : model.Heading) → FineHeading B g → {x y : List model.Step} → model.Grown x y → Fits B x → Fits B y
       → ByEngine k a m x (headOf (pt k B) (len k) g) → ByEngine k b m′ y (headOf (pt k B) (len k) g) → Clause
   of-engine g fine grown fx fy x y =
       let r = grids-in-ticks k B l e yes g fine grown fx fy (x .one) (x .two) (y .one) (y .two) (x .first) (x .second) (y .first) (y .second) in
-      rw (x .frames, y .frames, x .plate, y .plate) at r
+      rw (x .frames, y .frames) at r
 
   in-counts : GrownSheet a b → WholeSheet k a → WholeSheet k b → a .heading .«has_grid» ≡ true → NoNegativeSpacing a
       → passes k a m 0 .number ≡ 0 → passes k a m 1 .number ≡ 0 → passes k b m′ 0 .number ≡ 0 → passes k b m′ 1 .number ≡ 0 → Clause
@@ -156,7 +152,7 @@ module _ (k B : ℕ) (l : k ≤ 6) (e : B ≡ most k) (a b : Sheet) (m m′ : Me
 pub grids-grow : (k : ℕ) → k ≤ 6 → (a b : Sheet) (m m′ : Memory) → GrownSheet a b → WholeSheet k a → WholeSheet k b → a .heading .«has_grid» ≡ true → NoNegativeSpacing a
     → passes k a m 0 .number ≡ 0 → passes k a m 1 .number ≡ 0 → passes k b m′ 0 .number ≡ 0 → passes k b m′ 1 .number ≡ 0
     → Forall₂ (λ (c d : Cell). FrameNoLess (inTicks k (c .frame)) (inTicks k (d .frame))) (passes k a m 1 .cells) (passes k b m′ 1 .cells)
-    × PlateNoLess (inTicks k (passes k a m 1 .plate)) (inTicks k (passes k b m′ 1 .plate))
+    × Open k (passes k a m 1 .cells) (passes k b m′ 1 .cells)
 grids-grow k l a b m m′ g wa wb t n a₀ a₁ b₀ b₁ =
     let r = in-counts k (most k) l refl a b m m′ g wa wb t n a₀ a₁ b₀ b₁ in
-    (frames-no-less k (passes k a m 1 .cells) (passes k b m′ 1 .cells) (r .0), plate-no-less k (passes k a m 1 .plate) (passes k b m′ 1 .plate) (r .1))
+    (frames-no-less k (passes k a m 1 .cells) (passes k b m′ 1 .cells) (r .0), frames-open k (passes k a m 1 .cells) (passes k b m′ 1 .cells) (r .1))

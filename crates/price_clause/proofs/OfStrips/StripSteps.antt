@@ -155,7 +155,6 @@ module _ (k : ℕ) (l : k ≤ 6) (a : Align) (o : Place) (O : Sound o) (sp : Vec
 pub record Goes (k : ℕ) (a : Align) (sp : Vec2) (n : ℕ) (q : Place) (own : List Cell) (after : List Step) (r : Ran) : Type 0 where
   pub accepted : runFrom k sp (n + 1) (placerAt k a q) after .number ≡ 0
   pub cells : r .cells ≡ own ++ runFrom k sp (n + 1) (placerAt k a q) after .cells
-  pub placer : r .placer ≡ runFrom k sp (n + 1) (placerAt k a q) after .placer
 
 pub record ControlGoes (k : ℕ) (a : Align) (sp : Vec2) (s : ℤ) (n : ℕ) (o : Place) (w h : ℤ) (after : List Step) (r : Ran) : Type 0 where
   pub cell : Cell
@@ -170,7 +169,7 @@ module _ (k : ℕ) (a : Align) (sp : Vec2) (n : ℕ) (o : Place) (after : List S
       → Goes k a sp n q (t .cells) after (followed n t (runFrom k sp (n + 1) (t .placer) after))
   goes-on q t i e =
       let d = going n t (runFrom k sp (n + 1) (t .placer) after) e in
-      record { accepted = rw i at (d .rest); cells = d .cells ∙ rw i; placer = d .placer ∙ rw i }
+      record { accepted = rw i at (d .rest); cells = d .cells ∙ rw i }
 
   row-ended : stepped k sp (placerAt k a o) RowEnd .number ≡ 0 → stepped k sp (placerAt k a o) RowEnd .placer ≡ placerAt k a o
   unfolding stepped checkedEndRow

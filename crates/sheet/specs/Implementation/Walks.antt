@@ -1,4 +1,4 @@
--- For the contracts of src/walk.rt, cells.rt, outcomes.rt and passing.rt: a run over a text as the code has it, with the grid's arrays lent
+-- For the contracts of src/walk.rt, cells.rt, plate.rt, outcomes.rt and passing.rt: a run over a text as the code has it, with the grid's arrays lent
 -- and the rectangles in the slice.
 use Prim.Native.Nat.{ℕ, _+_, _-_, _*_, _≤_}
 use mathlib.Core.Path.{_≡_}
@@ -9,6 +9,7 @@ use lib.Dec.{ltb}
 use lib.ListN.{length, drop}
 use lib.Seq.{sets}
 use lib.Ieee.{Float}
+use Rattle.emath.specs.Rectangles.{union}
 use Rattle.emath.specs.Steps.{tick}
 use Rattle.emath.specs.declared.Rect.{Rect}
 use Rattle.emath.specs.declared.Vec2.{Vec2}
@@ -26,7 +27,7 @@ use Rattle.records.specs.declared.Record.the-variants as record-of
 use Rattle.records.specs.declared.Checked.the-variants as checked-of
 use Rattle.sheet.specs.declared.RunResult.{RunResult}
 use Rattle.sheet.specs.declared.Passed.{Passed}
-use Rattle.sheet.specs.Pass.{Sheet, Cell, Ran, runFrom, outcomeOf}
+use Rattle.sheet.specs.Pass.{Sheet, Cell, Ran, runFrom, plateOf, outcomeOf}
 use Rattle.sheet.specs.Texts.{stepsOf}
 use Rattle.sheet.specs.Ticks.{inTicks}
 use Rattle.sheet.specs.Slices.{edges, written, passedOf}
@@ -38,23 +39,32 @@ eightOf frame widget = edges (inTicks tick frame) ++ edges (inTicks tick widget)
 unfoldable pub putAt : List ℤ → ℕ → ℕ → Rect → Rect → List ℤ
 putAt out w placed frame widget = cond (ltb placed 1) out (sets out (8 * w) (eightOf frame widget))
 
--- how far a run came: a refusal's number (0: none) and record, and the placer
+-- the plate so far with the frame of W number w: the first is the plate, and each later one joins it; where `placed` is 0 there is none
+unfoldable pub joined : Rect → ℕ → Rect → Rect
+joined plate w frame = cond (ltb w 1) frame (union plate frame)
+
+unfoldable pub plateWith : Rect → ℕ → ℕ → Rect → Rect
+plateWith plate w placed frame = cond (ltb placed 1) plate (joined plate w frame)
+
+-- how far a run came: a refusal's number (0: none) and record, the placer, and the plate of the W before
 pub record Run : Type 0 where
   pub number : ℕ
   pub at : ℕ
   pub placer : Placer
+  pub plate : Rect
 
 -- the code's answer, its placer with the arrays that are lent
 abbrev pub runOf : PlacerSettings → RunResult → List Float → List Float → List Float → List Float → Run
-runOf p r pw ph ws hs = record { number = r .number; at = r .at; placer = placerOf p (r .state) pw ph ws hs }
+runOf p r pw ph ws hs = record { number = r .number; at = r .at; placer = placerOf p (r .state) pw ph ws hs; plate = r .plate }
 
 -- as a run of Pass.antt, with the rectangles cs
 abbrev pub ranOf : List Cell → Run → Ran
 ranOf cs r = record { number = r .number; at = r .at; cells = cs; placer = r .placer }
 
--- a run over some steps, from record n on, and the slice after it
+-- a run over some steps, from record n on, its plate, and the slice after it
 pub record Walked (sp : Vec2) (n : ℕ) (p : Placer) (steps : List Step) (out : List ℤ) (r : Run) (exit : List ℤ) : Type 0 where
   pub run : ranOf (runFrom tick sp n p steps .cells) r ≡ runFrom tick sp n p steps
+  pub plate : r .plate ≡ plateOf (runFrom tick sp n p steps .cells)
   pub slice : exit ≡ sets out 0 (written (runFrom tick sp n p steps .cells))
 
 -- an answer and a slice that are those of a run

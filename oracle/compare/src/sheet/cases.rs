@@ -2,8 +2,10 @@
 //! them. No reference made them.
 
 mod corners;
+mod plates;
 
 use self::corners::corners;
+use self::plates::plates;
 use super::answers::Bytes;
 use super::listing::list;
 use super::reference::{COLUMNS, MOST_RECORDS};
@@ -204,16 +206,11 @@ fn accepted() -> Vec<Case> {
             &["H 1 1 2 1 0 0 0 0 0 0 0 1\nE\nN 1\n"],
             "P 0 0 0 0\n",
         ),
-        case(
-            "the same without E",
-            &["H 1 1 2 1 0 0 0 0 0 0 0 1\nN 1\n"],
-            "P -1 0 0 0\n",
-        ),
     ]
 }
 
 pub fn cases() -> Vec<Case> {
-    [settled(), refused(), accepted(), corners()]
+    [settled(), refused(), accepted(), corners(), plates()]
         .into_iter()
         .flatten()
         .collect()

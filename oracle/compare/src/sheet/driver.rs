@@ -3,6 +3,7 @@
 use egui::grid::driver::Memory;
 use egui::placer::driver::{ByLength, Running};
 
+use super::plates::around;
 use super::reference::{self, Outcome as Checked, Record, lines, record_at};
 use crate::emath_ops::{edges, rect};
 use crate::faults::least;
@@ -33,17 +34,24 @@ pub struct Passed {
     pub out: Vec<i32>,
 }
 
+/// A pass as the Rust has it, and its own min_rect at the end; that of a refused one is all zero.
+pub struct Driven {
+    pub passed: Passed,
+    pub min_rect: Edges,
+}
+
 /// A pass in the midst of its sheet.
 struct Pass<'a> {
     given: &'a Given,
     rust: Running,
     state: Placer,
     spacing: [f32; 2],
+    frames: Vec<Edges>,
     /// The rectangles in ticks, eight numbers for each W.
     out: Vec<i32>,
 }
 
-fn ticks(r: &Edges) -> [i32; 4] {
+pub fn ticks(r: &Edges) -> [i32; 4] {
     r.map(|x| (x * TICKS_PER_POINT) as i32)
 }
 
@@ -70,6 +78,7 @@ impl<'a> Pass<'a> {
                 rust: begun(),
                 state: *state,
                 spacing,
+                frames: vec![],
                 out: vec![],
             }),
             number => Err(number),
@@ -125,6 +134,7 @@ impl<'a> Pass<'a> {
         match least(&numbers) {
             0 => {
                 self.state = laid.after;
+                self.frames.push(laid.frame);
                 self.out.extend(ticks(&laid.frame));
                 self.out.extend(ticks(&laid.widget));
                 Ok(())
@@ -155,22 +165,23 @@ impl<'a> Pass<'a> {
         self.call(&call)
     }
 
-    /// The plate is min_rect; a grid gives its memory, without one it is the one given.
-    fn end(mut self) -> Passed {
-        let plate = edges(self.rust.min_rect());
+    /// A grid gives its memory, without one it is the one given.
+    fn end(mut self) -> Driven {
+        let min_rect = edges(self.rust.min_rect());
         let (memory, save) = if self.state.has_grid {
             self.rust.save_grid()
         } else {
             (self.given.memory, false)
         };
-        Passed {
+        let passed = Passed {
             number: 0,
             record: 0,
-            plate,
+            plate: around(self.frames),
             memory,
             save: u8::from(save),
             out: on_top(&self.out, &self.given.out),
-        }
+        };
+        Driven { passed, min_rect }
     }
 }
 
@@ -179,18 +190,22 @@ fn on_top(written: &[i32], before: &[i32]) -> Vec<i32> {
     [written, &before[written.len()..]].concat()
 }
 
-fn refused(given: &Given, number: u8, record: usize, written: &[i32]) -> Passed {
-    Passed {
+fn refused(given: &Given, number: u8, record: usize, written: &[i32]) -> Driven {
+    let passed = Passed {
         number,
         record,
         plate: [0.0; 4],
         memory: given.memory,
         save: 0,
         out: on_top(written, &given.out),
+    };
+    Driven {
+        passed,
+        min_rect: [0.0; 4],
     }
 }
 
-pub fn pass(given: &Given) -> Passed {
+pub fn pass(given: &Given) -> Driven {
     if let Checked::Refused { number, record } = reference::check(&given.text, given.out.len()) {
         return refused(given, number, record, &[]);
     }

@@ -28,7 +28,7 @@ fn printed(text: &[u8]) -> (Passed, usize) {
         sizing: true,
         out: vec![0; PLACES * MOST_RECORDS],
     };
-    let passed = pass(&first);
+    let passed = pass(&first).passed;
     if passed.number != 0 || !has_grid(text) {
         return (passed, 1);
     }
@@ -39,7 +39,7 @@ fn printed(text: &[u8]) -> (Passed, usize) {
         out: passed.out,
         ..first
     };
-    (pass(&second), 2)
+    (pass(&second).passed, 2)
 }
 
 /// A length in ticks. All that are printed are whole: else the list could not say them.

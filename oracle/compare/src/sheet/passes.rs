@@ -4,7 +4,8 @@
 use egui::grid::driver::Memory;
 
 use super::damage::damage;
-use super::driver::{self, Given, Passed};
+use super::driver::{self, Driven, Given, Passed, ticks};
+use super::plates;
 use super::reference::{MOST_RECORDS, PLACES, lines};
 use super::{drawn, probe};
 use crate::grid::set_aside;
@@ -68,6 +69,7 @@ impl Same for Seen {
 struct Met {
     numbers: [u64; 10],
     corners: [u64; CORNERS.len()],
+    plates: [u64; plates::CORNERS.len()],
 }
 
 const CORNERS: [&str; 8] = [
@@ -81,8 +83,15 @@ const CORNERS: [&str; 8] = [
     "512 records accepted",
 ];
 
+fn count<const N: usize>(counts: &mut [u64; N], met: [bool; N]) {
+    for (count, met) in counts.iter_mut().zip(met) {
+        *count += u64::from(met);
+    }
+}
+
 impl Met {
-    fn note(&mut self, given: &Given, passed: &Passed) {
+    fn note(&mut self, given: &Given, driven: &Driven) {
+        let passed = &driven.passed;
         let (number, text) = (usize::from(passed.number), &given.text);
         self.numbers[number] += 1;
         let widgets = lines(text).filter(|line| line[0] == b'W').count();
@@ -103,8 +112,14 @@ impl Met {
             accepted && widgets != 0 && given.out.len() == PLACES * widgets,
             accepted && lines(text).count() == MOST_RECORDS,
         ];
-        for (count, met) in self.corners.iter_mut().zip(met) {
-            *count += u64::from(met);
+        count(&mut self.corners, met);
+        if accepted {
+            let (plate, min_rect) = (ticks(&passed.plate), ticks(&driven.min_rect));
+            let places = &passed.out[..PLACES * widgets];
+            count(
+                &mut self.plates,
+                plates::corners(plate, min_rect, places, grid),
+            );
         }
     }
 
@@ -120,7 +135,8 @@ impl Met {
                 t.lacking(&format!("passes: none with number {n}"));
             }
         }
-        for (words, count) in CORNERS.iter().zip(self.corners) {
+        let corners = CORNERS.iter().zip(self.corners);
+        for (words, count) in corners.chain(plates::CORNERS.iter().zip(self.plates)) {
             say!(t, "corner: {words}: {count}");
             if count == 0 {
                 t.lacking(words);
@@ -140,7 +156,7 @@ fn compare_pass(t: &mut Tally, given: &Given, met: &mut Met) -> Passed {
         set_aside(&given.memory, &mut ours.memory);
     }
     met.note(given, &theirs);
-    let theirs = Seen(theirs, grid);
+    let theirs = Seen(theirs.passed, grid);
     t.agree(NAME, given, &Seen(ours, grid), &theirs);
     theirs.0
 }
@@ -162,6 +178,7 @@ pub fn compare(t: &mut Tally) {
     let mut met = Met {
         numbers: [0; 10],
         corners: [0; CORNERS.len()],
+        plates: [0; plates::CORNERS.len()],
     };
     for _ in 0..SHEETS * t.times {
         let mut d = begin(&mut values);

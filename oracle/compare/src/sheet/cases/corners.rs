@@ -103,7 +103,7 @@ fn carried() -> Vec<Case> {
         case(
             "T grows max_rect (RULES 2.8)",
             &["H 0 0 0 0 2 0 0 5 0 69 0 0\nT 65\nW 0 0\n"],
-            "W 3 0 70 0 70 0 70 0 70\nP 0 5 0 70\n",
+            "W 3 0 70 0 70 0 70 0 70\nP 0 70 0 70\n",
         ),
         case(
             "rectangles that touch intersect (RULES 1.11)",
@@ -117,13 +117,13 @@ fn carried() -> Vec<Case> {
         ),
         case(
             "R in a grid (RULES 4.15)",
-            &["H 0 1 0 0 1 0 0 0 0 135 0 0\nG 0 0 _ 0 2 0\nR 0\nT 33\n"],
-            "P 0 0 0 68\n",
+            &["H 0 1 0 0 1 0 0 0 0 135 0 0\nG 0 0 _ 0 2 0\nR 0\nT 33\nW 1 1\n"],
+            "W 5 0 0 1 1 0 0 1 1\nP 0 0 1 1\nC 0 1\nD 0 1\n",
         ),
         case(
             "K in a grid (RULES 4.17)",
-            &["H 2 0 1 1 0 0 0 0 0 639 0 0\nG 0 0 0 0 2 0\nK 0\nT 65\n"],
-            "P 0 320 0 385\n",
+            &["H 2 0 1 1 0 0 0 0 0 639 0 0\nG 0 0 0 0 2 0\nK 0\nT 65\nW 1 1\n"],
+            "W 5 0 320 1 321 0 320 1 321\nP 0 320 1 321\nC 0 1\nD 0 1\n",
         ),
         case(
             "a row that starts again is open (RULES 2.22)",

@@ -1,0 +1,132 @@
+-- The plate of frames in whole steps is in whole steps, and is the smallest rectangle around them. For steps of 1 to 1/128 point. Assumes
+-- nothing.
+use Prim.Native.Nat.{ℕ, _≤_, _<_}
+use mathlib.Core.Path.{_≡_, refl, ap, sym, _∙_}
+use mathlib.Core.List.{List, [], _∷_}
+use mathlib.Core.Logic.{_⊎_, inl, inr}
+use native.Mathlib.Omega.{arith}
+use lib.IntN.{ℤ}
+use lib.ListN.{length}
+use lib.Signed.{_≤ℤ_, ≤ℤ-refl}
+use lib.Ieee.{Float}
+use Rattle.emath.specs.Rectangles.{minF, maxF, union}
+use Rattle.emath.specs.Steps.{val, Edge}
+use Rattle.emath.proofs.MinMax.{min-one-of, max-one-of}
+use Rattle.emath.proofs.Whole.{minZ, maxZ, min-is, max-is, →leZ, whole}
+use Rattle.emath.proofs.Values.{val-min, val-max}
+use Rattle.emath.proofs.Casts.{points-to-steps}
+use Rattle.emath.proofs.Sums.{edge-small}
+use Rattle.emath.specs.declared.Rect.{Rect}
+use Rattle.region.specs.Steps.{WholeRect}
+use Rattle.sheet.specs.Pass.{Cell, around, plateOf}
+use Rattle.sheet.specs.Ticks.{Ticks, ticks, inTicks}
+use Rattle.sheet.proofs.Plates.{zero-rect, union-whole}
+use Rattle.sheet.proofs.Ticking.{steps-are}
+use Rattle.pass_laws.specs.EachCell.{none, more}
+use Rattle.pass_laws.specs.Plates.{Holds, HoldsFrames, Smallest}
+use Rattle.pass_laws.specs.WholeCells.{WholeCells}
+
+-- ---- rectangles that hold others
+trans : {a b c : ℤ} → a ≤ℤ b → b ≤ℤ c → a ≤ℤ c
+trans {a} {b} {c} h k = record { le = →leZ a c (omega (arith, whole)) }
+
+pub holds-itself : (t : Ticks) → Holds t t
+holds-itself t = record { left = ≤ℤ-refl _; top = ≤ℤ-refl _; right = ≤ℤ-refl _; bottom = ≤ℤ-refl _ }
+
+pub holds-trans : {r s t : Ticks} → Holds r s → Holds s t → Holds r t
+holds-trans a b = record {
+  left = trans (a .left) (b .left);
+  top = trans (a .top) (b .top);
+  right = trans (b .right) (a .right);
+  bottom = trans (b .bottom) (a .bottom);
+}
+
+-- ---- the union of two
+-- what is so of both numbers is so of the lesser, which is one of them
+one-of : (P : Float → Type 0) {z x y : Float} → P x → P y → (z ≡ x) ⊎ (z ≡ y) → P z
+one-of P p q (inl e) = rw e p
+one-of P p q (inr e) = rw e q
+
+-- so what holds both rectangles holds their union
+union-least : (k : ℕ) (t : Ticks) (a b : Rect) → Holds t (inTicks k a) → Holds t (inTicks k b) → Holds t (inTicks k (union a b))
+unfolding union
+union-least k t a b A B = record {
+  left = one-of (λ (x : Float). t .left ≤ℤ ticks k x) (A .left) (B .left) (min-one-of (a .left) (b .left));
+  top = one-of (λ (x : Float). t .top ≤ℤ ticks k x) (A .top) (B .top) (min-one-of (a .top) (b .top));
+  right = one-of (λ (x : Float). ticks k x ≤ℤ t .right) (A .right) (B .right) (max-one-of (a .right) (b .right));
+  bottom = one-of (λ (x : Float). ticks k x ≤ℤ t .bottom) (A .bottom) (B .bottom) (max-one-of (a .bottom) (b .bottom));
+}
+
+low : (a b : ℤ) → (minZ a b ≤ℤ a) × (minZ a b ≤ℤ b)
+low a b = (record { le = →leZ (minZ a b) a (omega (arith, min-is a b)) }, record { le = →leZ (minZ a b) b (omega (arith, min-is a b)) })
+
+high : (a b : ℤ) → (a ≤ℤ maxZ a b) × (b ≤ℤ maxZ a b)
+high a b = (record { le = →leZ a (maxZ a b) (omega (arith, max-is a b)) }, record { le = →leZ b (maxZ a b) (omega (arith, max-is a b)) })
+
+module _ (k : ℕ) (l : k ≤ 7) where
+  lesser : {x y : Float} → Edge k x → Edge k y → ticks k (minF x y) ≡ minZ (ticks k x) (ticks k y)
+  lesser {x} {y} X Y =
+      let A = edge-small k l X in
+      let B = edge-small k l Y in
+      let m : minF x y ≡ val k (minZ (X .steps) (Y .steps)) = rw (X .is, Y .is) (val-min k (omega arith) (X .steps) (Y .steps) (omega arith) (omega arith)) in
+      rw (m, steps-are k l x X, steps-are k l y Y) (points-to-steps k (omega arith) (minZ (X .steps) (Y .steps)) (omega (arith, min-is (X .steps) (Y .steps))) .1)
+
+  greater : {x y : Float} → Edge k x → Edge k y → ticks k (maxF x y) ≡ maxZ (ticks k x) (ticks k y)
+  greater {x} {y} X Y =
+      let A = edge-small k l X in
+      let B = edge-small k l Y in
+      let m : maxF x y ≡ val k (maxZ (X .steps) (Y .steps)) = rw (X .is, Y .is) (val-max k (omega arith) (X .steps) (Y .steps) (omega arith) (omega arith)) in
+      rw (m, steps-are k l x X, steps-are k l y Y) (points-to-steps k (omega arith) (maxZ (X .steps) (Y .steps)) (omega (arith, max-is (X .steps) (Y .steps))) .1)
+
+  -- and the union holds both
+  union-holds : (a b : Rect) → WholeRect k a → WholeRect k b → Holds (inTicks k (union a b)) (inTicks k a) × Holds (inTicks k (union a b)) (inTicks k b)
+  unfolding union
+  union-holds a b A B = (
+    record {
+      left = rw (lesser (A .left) (B .left)) (low (ticks k (a .left)) (ticks k (b .left)) .0);
+      top = rw (lesser (A .top) (B .top)) (low (ticks k (a .top)) (ticks k (b .top)) .0);
+      right = rw (greater (A .right) (B .right)) (high (ticks k (a .right)) (ticks k (b .right)) .0);
+      bottom = rw (greater (A .bottom) (B .bottom)) (high (ticks k (a .bottom)) (ticks k (b .bottom)) .0);
+    },
+    record {
+      left = rw (lesser (A .left) (B .left)) (low (ticks k (a .left)) (ticks k (b .left)) .1);
+      top = rw (lesser (A .top) (B .top)) (low (ticks k (a .top)) (ticks k (b .top)) .1);
+      right = rw (greater (A .right) (B .right)) (high (ticks k (a .right)) (ticks k (b .right)) .1);
+      bottom = rw (greater (A .bottom) (B .bottom)) (high (ticks k (a .bottom)) (ticks k (b .bottom)) .1);
+    },
+  )
+
+-- ---- the union of all
+module _ (k : ℕ) (l : k ≤ 7) where
+  around-whole : (r : Rect) {cs : List Cell} → WholeRect k r → WholeCells k cs → WholeRect k (around r cs)
+  unfolding around
+  around-whole r R WholeCells.none = R
+  around-whole r R (WholeCells.more {c = c} f w rest) = around-whole (union r (c .frame)) (union-whole r (c .frame) R f) rest
+
+  pub plate-whole : {cs : List Cell} → WholeCells k cs → WholeRect k (plateOf cs)
+  unfolding plateOf
+  plate-whole WholeCells.none = zero-rect k
+  plate-whole (WholeCells.more {c = c} f w rest) = around-whole (c .frame) f rest
+
+  around-holds : (r : Rect) {cs : List Cell} → WholeRect k r → WholeCells k cs → Holds (inTicks k (around r cs)) (inTicks k r) × HoldsFrames k (inTicks k (around r cs)) cs
+  unfolding around
+  around-holds r R WholeCells.none = (holds-itself _, none)
+  around-holds r R (WholeCells.more {c = c} f w rest) =
+      let u = union-holds k l r (c .frame) R f in
+      let h = around-holds (union r (c .frame)) (union-whole r (c .frame) R f) rest in
+      (holds-trans (h .0) (u .0), more (holds-trans (h .0) (u .1)) (h .1))
+
+  around-least : (t : Ticks) (r : Rect) {cs : List Cell} → Holds t (inTicks k r) → HoldsFrames k t cs → Holds t (inTicks k (around r cs))
+  unfolding around
+  around-least t r R none = R
+  around-least t r R (more {c = c} f rest) = around-least t (union r (c .frame)) (union-least k t r (c .frame) R f) rest
+
+  pub smallest : {cs : List Cell} → WholeCells k cs → 0 < length cs → Smallest k (inTicks k (plateOf cs)) cs
+  unfolding plateOf
+  smallest WholeCells.none some = absurd (omega arith)
+  smallest (WholeCells.more {c = c} {cs = cs} f w rest) some =
+      let h = around-holds (c .frame) f rest in
+      record { holds = more (h .0) (h .1); least = λ t H. (least t H) }
+    where
+      least : (t : Ticks) → HoldsFrames k t (c ∷ cs) → Holds t (inTicks k (around (c .frame) cs))
+      least t (more g others) = around-least t (c .frame) g others

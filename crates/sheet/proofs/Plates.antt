@@ -1,0 +1,67 @@
+-- The plate of frames in whole steps is in whole steps too. For steps of 1 to 1/128 point. Assumes nothing.
+use Prim.Native.Nat.{ℕ, _≤_, _<_}
+use mathlib.Core.Path.{_≡_, refl, sym}
+use mathlib.Core.Bool.{Bool, true, false, cond}
+use mathlib.Core.Logic.{_⊎_, inl, inr}
+use native.Mathlib.Omega.{arith}
+use lib.Dec.{ltb}
+use borrow.Author.Tests.{ltb-false}
+use lib.IntN.{pos}
+use lib.Ieee.{Float, ofBits}
+use Rattle.emath.specs.Rectangles.{zeroF, union}
+use Rattle.emath.specs.Steps.{tick, val, Edge}
+use Rattle.emath.specs.Implementation.NoNaN.{IsNumber, Numbers}
+use Rattle.emath.proofs.MinMax.{min-one-of, max-one-of}
+use Rattle.emath.proofs.Exact.{val-is, ne-is}
+use Rattle.emath.proofs.Sums.{edge-small}
+use Rattle.emath.proofs.Zeros.{val-zero}
+use Rattle.emath.specs.declared.Rect.{Rect}
+use Rattle.region.specs.Refusals.{zeroRect}
+use Rattle.region.specs.Steps.{WholeRect}
+use Rattle.sheet.specs.Implementation.Walks.{joined, plateWith}
+
+-- ---- zeros
+pub zero-edge : (k : ℕ) → Edge k zeroF
+unfolding ofBits
+zero-edge k = record { steps = pos 0; few = omega arith; is = sym (val-zero k) }
+
+pub zero-rect : (k : ℕ) → WholeRect k zeroRect
+zero-rect k = let e = zero-edge k in record { left = e; top = e; right = e; bottom = e }
+
+-- ---- one frame more
+-- a whole number of ticks is no NaN
+number : {x : Float} → Edge tick x → IsNumber x
+number {x} e = rw (e .is) (ne-is (val tick (e .steps)) tick (e .steps) (val-is tick (e .steps) (omega arith) (omega (arith, edge-small tick (omega arith) e))))
+
+pub rect-numbers : {r : Rect} → WholeRect tick r → Numbers r
+rect-numbers w = record { left = number (w .left); top = number (w .top); right = number (w .right); bottom = number (w .bottom) }
+
+-- min and max give one of the two
+one-of : {k : ℕ} {z x y : Float} → Edge k x → Edge k y → (z ≡ x) ⊎ (z ≡ y) → Edge k z
+one-of X Y (inl e) = rw e X
+one-of X Y (inr e) = rw e Y
+
+pub union-whole : {k : ℕ} (a b : Rect) → WholeRect k a → WholeRect k b → WholeRect k (union a b)
+unfolding union
+union-whole a b A B = record {
+  left = one-of (A .left) (B .left) (min-one-of (a .left) (b .left));
+  top = one-of (A .top) (B .top) (min-one-of (a .top) (b .top));
+  right = one-of (A .right) (B .right) (max-one-of (a .right) (b .right));
+  bottom = one-of (A .bottom) (B .bottom) (max-one-of (a .bottom) (b .bottom));
+}
+
+joined-whole : {plate frame : Rect} (w : ℕ) → WholeRect tick plate → WholeRect tick frame → WholeRect tick (joined plate w frame)
+unfolding joined
+joined-whole {plate} {frame} w P F = go (ltb w 1)
+  where
+    go : (b : Bool) → WholeRect tick (cond b frame (union plate frame))
+    go true = F
+    go false = union-whole plate frame P F
+
+pub with-whole : {plate frame : Rect} (w placed : ℕ) → WholeRect tick plate → (0 < placed → WholeRect tick frame) → WholeRect tick (plateWith plate w placed frame)
+unfolding plateWith
+with-whole {plate} {frame} w placed P F = go (ltb placed 1) refl
+  where
+    go : (b : Bool) → ltb placed 1 ≡ b → WholeRect tick (cond b plate (joined plate w frame))
+    go true e = P
+    go false e = joined-whole w P (F (ltb-false placed 1 e))

@@ -26,6 +26,17 @@ pub max-one-of : (a b : Float) → (maxF a b ≡ a) ⊎ (maxF a b ≡ b)
 unfolding maxF
 max-one-of a b = one-of (lt a b) (ne a a) a b
 
+-- so what is so of both numbers is so of it
+both : (P : Float → Type 0) {z x y : Float} → P x → P y → (z ≡ x) ⊎ (z ≡ y) → P z
+both P p q (inl e) = subst P (sym e) p
+both P p q (inr e) = subst P (sym e) q
+
+pub min-both : (P : Float → Type 0) (a b : Float) → P a → P b → P (minF a b)
+min-both P a b p q = both P p q (min-one-of a b)
+
+pub max-both : (P : Float → Type 0) (a b : Float) → P a → P b → P (maxF a b)
+max-both P a b p q = both P p q (max-one-of a b)
+
 -- ---- a NaN gives the other
 -- what is unlike itself is a NaN
 kept : (a : Float) → cond (ne a a) nan a ≡ a

@@ -1,7 +1,6 @@
 -- Sums and differences of edges, and the lesser and greater of two, are whole numbers of steps; within the limit they are edges again.
 -- For steps of 1 to 1/128 point. Assumes nothing.
 use mathlib.Core.Path.{_≡_, refl, sym}
-use mathlib.Core.Logic.{_⊎_, inl, inr}
 use mathlib.Core.Bool.{Bool, true, false}
 use Prim.Native.Nat.{ℕ, _≤_}
 use native.Mathlib.Omega.{arith}
@@ -16,7 +15,7 @@ use Rattle.emath.proofs.Whole.{Within, within-natAbs, sum, diff}
 use Rattle.emath.proofs.Exact.{Small}
 use Rattle.emath.proofs.Values.{val-add, val-sub, inf-lt, lt-inf, eq-inf}
 use Rattle.emath.proofs.Zeros.{val-zero}
-use Rattle.emath.proofs.MinMax.{min-one-of, max-one-of}
+use Rattle.emath.proofs.MinMax.{min-both, max-both}
 use Rattle.emath.proofs.Edges.{within-steps}
 
 -- x is a whole number of steps, few enough that it is exact
@@ -50,15 +49,11 @@ module _ (k : ℕ) (l : k ≤ 7) where
   pub zero-grid : OnGrid k zeroF
   zero-grid = record { steps = pos 0; small = omega arith; is = (unfold ofBits in sym (val-zero k)) }
 
-  either-grid : (z x y : Float) → OnGrid k x → OnGrid k y → (z ≡ x) ⊎ (z ≡ y) → OnGrid k z
-  either-grid z x y g h (inl e) = rw e g
-  either-grid z x y g h (inr e) = rw e h
-
   pub grid-min : {x y : Float} → OnGrid k x → OnGrid k y → OnGrid k (minF x y)
-  grid-min {x} {y} g h = either-grid (minF x y) x y g h (min-one-of x y)
+  grid-min {x} {y} g h = min-both (OnGrid k) x y g h
 
   pub grid-max : {x y : Float} → OnGrid k x → OnGrid k y → OnGrid k (maxF x y)
-  grid-max {x} {y} g h = either-grid (maxF x y) x y g h (max-one-of x y)
+  grid-max {x} {y} g h = max-both (OnGrid k) x y g h
 
   pub grid-not-inf : {x : Float} → OnGrid k x → (s : Bool) → eq x (inf s) ≡ false
   grid-not-inf g s = rw (g .is) (eq-inf k (omega arith) (g .steps) (g .small) s)

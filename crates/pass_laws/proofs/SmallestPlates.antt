@@ -1,9 +1,8 @@
 -- The plate of frames in whole steps is in whole steps, and is the smallest rectangle around them. For steps of 1 to 1/128 point. Assumes
 -- nothing.
 use Prim.Native.Nat.{ℕ, _≤_, _<_}
-use mathlib.Core.Path.{_≡_, refl, ap, sym, _∙_}
-use mathlib.Core.List.{List, [], _∷_}
-use mathlib.Core.Logic.{_⊎_, inl, inr}
+use mathlib.Core.Path.{_≡_}
+use mathlib.Core.List.{List, _∷_}
 use native.Mathlib.Omega.{arith}
 use lib.IntN.{ℤ}
 use lib.ListN.{length}
@@ -11,7 +10,7 @@ use lib.Signed.{_≤ℤ_, ≤ℤ-refl}
 use lib.Ieee.{Float}
 use Rattle.emath.specs.Rectangles.{minF, maxF, union}
 use Rattle.emath.specs.Steps.{val, Edge}
-use Rattle.emath.proofs.MinMax.{min-one-of, max-one-of}
+use Rattle.emath.proofs.MinMax.{min-both, max-both}
 use Rattle.emath.proofs.Whole.{minZ, maxZ, min-is, max-is, →leZ, whole}
 use Rattle.emath.proofs.Values.{val-min, val-max}
 use Rattle.emath.proofs.Casts.{points-to-steps}
@@ -42,19 +41,14 @@ holds-trans a b = record {
 }
 
 -- ---- the union of two
--- what is so of both numbers is so of the lesser, which is one of them
-one-of : (P : Float → Type 0) {z x y : Float} → P x → P y → (z ≡ x) ⊎ (z ≡ y) → P z
-one-of P p q (inl e) = rw e p
-one-of P p q (inr e) = rw e q
-
--- so what holds both rectangles holds their union
+-- what holds both rectangles holds it
 union-least : (k : ℕ) (t : Ticks) (a b : Rect) → Holds t (inTicks k a) → Holds t (inTicks k b) → Holds t (inTicks k (union a b))
 unfolding union
 union-least k t a b A B = record {
-  left = one-of (λ (x : Float). t .left ≤ℤ ticks k x) (A .left) (B .left) (min-one-of (a .left) (b .left));
-  top = one-of (λ (x : Float). t .top ≤ℤ ticks k x) (A .top) (B .top) (min-one-of (a .top) (b .top));
-  right = one-of (λ (x : Float). ticks k x ≤ℤ t .right) (A .right) (B .right) (max-one-of (a .right) (b .right));
-  bottom = one-of (λ (x : Float). ticks k x ≤ℤ t .bottom) (A .bottom) (B .bottom) (max-one-of (a .bottom) (b .bottom));
+  left = min-both (λ (x : Float). t .left ≤ℤ ticks k x) (a .left) (b .left) (A .left) (B .left);
+  top = min-both (λ (x : Float). t .top ≤ℤ ticks k x) (a .top) (b .top) (A .top) (B .top);
+  right = max-both (λ (x : Float). ticks k x ≤ℤ t .right) (a .right) (b .right) (A .right) (B .right);
+  bottom = max-both (λ (x : Float). ticks k x ≤ℤ t .bottom) (a .bottom) (b .bottom) (A .bottom) (B .bottom);
 }
 
 low : (a b : ℤ) → (minZ a b ≤ℤ a) × (minZ a b ≤ℤ b)
@@ -101,7 +95,7 @@ module _ (k : ℕ) (l : k ≤ 7) where
   around-whole : (r : Rect) {cs : List Cell} → WholeRect k r → WholeCells k cs → WholeRect k (around r cs)
   unfolding around
   around-whole r R WholeCells.none = R
-  around-whole r R (WholeCells.more {c = c} f w rest) = around-whole (union r (c .frame)) (union-whole r (c .frame) R f) rest
+  around-whole r R (WholeCells.more {c = c} f w rest) = around-whole (union r (c .frame)) (union-whole k r (c .frame) R f) rest
 
   pub plate-whole : {cs : List Cell} → WholeCells k cs → WholeRect k (plateOf cs)
   unfolding plateOf
@@ -113,7 +107,7 @@ module _ (k : ℕ) (l : k ≤ 7) where
   around-holds r R WholeCells.none = (holds-itself _, none)
   around-holds r R (WholeCells.more {c = c} f w rest) =
       let u = union-holds k l r (c .frame) R f in
-      let h = around-holds (union r (c .frame)) (union-whole r (c .frame) R f) rest in
+      let h = around-holds (union r (c .frame)) (union-whole k r (c .frame) R f) rest in
       (holds-trans (h .0) (u .0), more (holds-trans (h .0) (u .1)) (h .1))
 
   around-least : (t : Ticks) (r : Rect) {cs : List Cell} → Holds t (inTicks k r) → HoldsFrames k t cs → Holds t (inTicks k (around r cs))

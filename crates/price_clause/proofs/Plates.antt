@@ -1,7 +1,7 @@
 -- The plates of two lists of frames, the second's no less and both open at one corner: both plates have that corner, and the second holds the
 -- first, so it is neither narrower nor less tall. For steps of 1 to 1/128 point. Assumes nothing.
 use Prim.Native.Nat.{ℕ, _≤_, _<_}
-use mathlib.Core.Path.{_≡_, refl, sym, _∙_}
+use mathlib.Core.Path.{_≡_, sym, _∙_}
 use mathlib.Core.List.{List, [], _∷_, Forall₂, Forall₂·nil, Forall₂·cons}
 use native.Mathlib.Omega.{arith}
 use lib.IntN.{ℤ, _-ℤ_}

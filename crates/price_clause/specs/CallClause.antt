@@ -48,8 +48,7 @@ pub record InTurn (text : List ℕ) (m : Memory) (count : ℕ) (answers : ℕ �
 pub record NoLessIn (count : ℕ) (p q : Passed) (out out′ : List ℤ) : Type 0 where
   pub frames : (k : ℕ) → k < count → FrameNoLess (frameIn out k) (frameIn out′ k)
   pub plate : PlateNoLess (inTicks tick (p .plate)) (inTicks tick (q .plate))
-  -- and more than the price list says: the second plate holds the first, and with a W both have one left top corner, that of their first
-  -- frames
+  -- RULES 10.4: and more: the second plate holds the first, and with a W both have one left top corner, that of their first frames
   pub holds : Holds (inTicks tick (q .plate)) (inTicks tick (p .plate))
   pub corner : 0 < count
       → OneCorner (inTicks tick (p .plate)) (frameIn out 0) × OneCorner (inTicks tick (q .plate)) (frameIn out′ 0) × OneCorner (inTicks tick (p .plate)) (inTicks tick (q .plate))

@@ -29,8 +29,7 @@ Accepted o = o .number ≡ 0
 pub record NoLess (k : ℕ) (a b : Outcome) : Type 0 where
   pub frames : Forall₂ (λ (c d : Cell). FrameNoLess (inTicks k (c .frame)) (inTicks k (d .frame))) (a .cells) (b .cells)
   pub plate : PlateNoLess (inTicks k (a .plate)) (inTicks k (b .plate))
-  -- and more than the price list says: the second plate holds the first, and with a W both have one left top corner, that of their first
-  -- frames
+  -- RULES 10.4: and more: the second plate holds the first, and with a W both have one left top corner, that of their first frames
   pub holds : Holds (inTicks k (b .plate)) (inTicks k (a .plate))
   pub corner : 0 < length (a .cells)
       → OneCorner (inTicks k (a .plate)) (firstFrame k (a .cells)) × OneCorner (inTicks k (b .plate)) (firstFrame k (b .cells)) × OneCorner (inTicks k (a .plate)) (inTicks k (b .plate))

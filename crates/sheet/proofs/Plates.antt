@@ -2,7 +2,6 @@
 use Prim.Native.Nat.{ℕ, _≤_, _<_}
 use mathlib.Core.Path.{_≡_, refl, sym}
 use mathlib.Core.Bool.{Bool, true, false, cond}
-use mathlib.Core.Logic.{_⊎_, inl, inr}
 use native.Mathlib.Omega.{arith}
 use lib.Dec.{ltb}
 use borrow.Author.Tests.{ltb-false}
@@ -11,7 +10,7 @@ use lib.Ieee.{Float, ofBits}
 use Rattle.emath.specs.Rectangles.{zeroF, union}
 use Rattle.emath.specs.Steps.{tick, val, Edge}
 use Rattle.emath.specs.Implementation.NoNaN.{IsNumber, Numbers}
-use Rattle.emath.proofs.MinMax.{min-one-of, max-one-of}
+use Rattle.emath.proofs.MinMax.{min-both, max-both}
 use Rattle.emath.proofs.Exact.{val-is, ne-is}
 use Rattle.emath.proofs.Sums.{edge-small}
 use Rattle.emath.proofs.Zeros.{val-zero}
@@ -36,18 +35,13 @@ number {x} e = rw (e .is) (ne-is (val tick (e .steps)) tick (e .steps) (val-is t
 pub rect-numbers : {r : Rect} → WholeRect tick r → Numbers r
 rect-numbers w = record { left = number (w .left); top = number (w .top); right = number (w .right); bottom = number (w .bottom) }
 
--- min and max give one of the two
-one-of : {k : ℕ} {z x y : Float} → Edge k x → Edge k y → (z ≡ x) ⊎ (z ≡ y) → Edge k z
-one-of X Y (inl e) = rw e X
-one-of X Y (inr e) = rw e Y
-
-pub union-whole : {k : ℕ} (a b : Rect) → WholeRect k a → WholeRect k b → WholeRect k (union a b)
+pub union-whole : (k : ℕ) (a b : Rect) → WholeRect k a → WholeRect k b → WholeRect k (union a b)
 unfolding union
-union-whole a b A B = record {
-  left = one-of (A .left) (B .left) (min-one-of (a .left) (b .left));
-  top = one-of (A .top) (B .top) (min-one-of (a .top) (b .top));
-  right = one-of (A .right) (B .right) (max-one-of (a .right) (b .right));
-  bottom = one-of (A .bottom) (B .bottom) (max-one-of (a .bottom) (b .bottom));
+union-whole k a b A B = record {
+  left = min-both (Edge k) (a .left) (b .left) (A .left) (B .left);
+  top = min-both (Edge k) (a .top) (b .top) (A .top) (B .top);
+  right = max-both (Edge k) (a .right) (b .right) (A .right) (B .right);
+  bottom = max-both (Edge k) (a .bottom) (b .bottom) (A .bottom) (B .bottom);
 }
 
 joined-whole : {plate frame : Rect} (w : ℕ) → WholeRect tick plate → WholeRect tick frame → WholeRect tick (joined plate w frame)
@@ -56,7 +50,7 @@ joined-whole {plate} {frame} w P F = go (ltb w 1)
   where
     go : (b : Bool) → WholeRect tick (cond b frame (union plate frame))
     go true = F
-    go false = union-whole plate frame P F
+    go false = union-whole tick plate frame P F
 
 pub with-whole : {plate frame : Rect} (w placed : ℕ) → WholeRect tick plate → (0 < placed → WholeRect tick frame) → WholeRect tick (plateWith plate w placed frame)
 unfolding plateWith

@@ -109,7 +109,7 @@ gridSet h known m sizing p =
     }
 
 -- ---- the whole pass
--- RULES 6.19: the plate is the union of all frames; without a W it is all zero
+-- RULES 6.19: a rectangle with the frames of some W; the plate is the first frame with all the others, and without a W it is all zero
 unfoldable pub around : Rect → List Cell → Rect
 around r [] = r
 around r (c ∷ rest) = around (union r (c .frame)) rest

@@ -7,12 +7,12 @@ use lib.Dec.{T}
 use lib.IntN.{ℤ, pos, negsuc, negℤ, _+ℤ_, _-ℤ_}
 use lib.Pow.{pow-mono}
 use lib.Ieee.{Float, binary32, ofBits, add, sub, div, le}
-use Rattle.emath.specs.Rectangles.{nearUp, minF, maxF, twoF, centreOn, roundUi}
+use Rattle.emath.specs.Rectangles.{nearUp, maxF, twoF, centreOn, roundUi}
 use Rattle.emath.specs.Domain.{within}
 use Rattle.emath.specs.Steps.{val, roundZ, most, Edge}
-use Rattle.emath.proofs.Whole.{more, less, Within, natAbs-within, within-natAbs, sum, diff, more-neg, less-neg, whole, maxZ, minZ, max-is, min-is, →leZ}
+use Rattle.emath.proofs.Whole.{more, less, Within, natAbs-within, within-natAbs, sum, diff, more-neg, less-neg, whole, maxZ, max-is, →leZ}
 use Rattle.emath.proofs.Exact.{Small}
-use Rattle.emath.proofs.Values.{val-add, val-sub, val-max, val-min, val-div, val-finer}
+use Rattle.emath.proofs.Values.{val-add, val-sub, val-max, val-div, val-finer}
 use Rattle.emath.proofs.Order.{val-mono}
 use Rattle.emath.proofs.Rounding.{val-round, val-whole}
 use Rattle.emath.proofs.Edges.{within-steps, steps-within, within-edge}

@@ -5,7 +5,7 @@ use mathlib.Core.Path.{_≡_, ap, sym, _∙_}
 use mathlib.Core.Bool.{true, false, true≢false}
 use lib.Dec.{T}
 use lib.Ieee.{Float}
-use Rattle.emath.specs.Rectangles.{isInfinite, union}
+use Rattle.emath.specs.Rectangles.{isInfinite}
 use Rattle.emath.specs.Domain.{within}
 use Rattle.emath.specs.Refusals.{least}
 use Rattle.emath.proofs.Tests.{is-lt}

@@ -120,7 +120,7 @@ module _ (k : ℕ) (l : k ≤ 7) where
   smallest WholeCells.none some = absurd (omega arith)
   smallest (WholeCells.more {c = c} {cs = cs} f w rest) some =
       let h = around-holds (c .frame) f rest in
-      record { holds = more (h .0) (h .1); least = λ t H. (least t H) }
+      record { holds = more (h .0) (h .1); least = least }
     where
       least : (t : Ticks) → HoldsFrames k t (c ∷ cs) → Holds t (inTicks k (around (c .frame) cs))
       least t (more g others) = around-least t (c .frame) g others

@@ -1,5 +1,5 @@
--- The plates of two lists of frames, the second's no less and both open at one corner: both plates have that corner, and the second holds the
--- first, so it is neither narrower nor less tall. For steps of 1 to 1/128 point. Assumes nothing.
+-- The plates of two lists of frames, the second's no less and both open at one corner: both plates have that corner, and the second holds
+-- the first, so it is neither narrower nor less tall. For steps of 1 to 1/128 point. Assumes nothing.
 use Prim.Native.Nat.{ℕ, _≤_, _<_}
 use mathlib.Core.Path.{_≡_, sym, _∙_}
 use mathlib.Core.List.{List, [], _∷_, Forall₂, Forall₂·nil, Forall₂·cons}
@@ -17,7 +17,7 @@ use Rattle.pass_laws.proofs.SmallestPlates.{holds-itself, smallest}
 use Rattle.price_clause.specs.Sheets.{FrameNoLess, PlateNoLess, OneCorner, firstFrame}
 
 -- ---- one corner
--- a frame starts no further left than x and no higher than y
+-- a frame starts neither further left than x nor higher than y
 pub record Starts (x y : ℤ) (t : Ticks) : Type 0 where
   pub left : x ≤ℤ t .left
   pub top : y ≤ℤ t .top

@@ -1,4 +1,5 @@
--- The plate of frames in whole steps is in whole steps too. For steps of 1 to 1/128 point. Assumes nothing.
+-- What a pass gathers of its plate is in whole ticks, and so has no NaN; a union of rectangles in whole steps is in whole steps. Assumes
+-- nothing.
 use Prim.Native.Nat.{ℕ, _≤_, _<_}
 use mathlib.Core.Path.{_≡_, refl, sym}
 use mathlib.Core.Bool.{Bool, true, false, cond}

@@ -1,5 +1,5 @@
--- For the contracts of src/walk.rt, cells.rt, plate.rt, outcomes.rt and passing.rt: a run over a text as the code has it, with the grid's arrays lent
--- and the rectangles in the slice.
+-- For the contracts of src/walk.rt, cells.rt, plate.rt, outcomes.rt and passing.rt: a run over a text as the code has it, with the grid's
+-- arrays lent and the rectangles in the slice.
 use Prim.Native.Nat.{ℕ, _+_, _-_, _*_, _≤_}
 use mathlib.Core.Path.{_≡_}
 use mathlib.Core.Bool.{Bool, cond}

@@ -175,7 +175,7 @@ edges-within r h =
     record { left = T-of (a .0); top = T-of (b .0); right = T-of (d .0); bottom = T-of (d .1) }
 
 -- what is within the limit is no NaN
-no-nan : (x : Float) → T (within x) → IsNumber x
+pub no-nan : (x : Float) → T (within x) → IsNumber x
 unfolding le
 no-nan x t = go (nan-or-number x)
   where

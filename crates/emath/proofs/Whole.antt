@@ -5,7 +5,7 @@ use native.Mathlib.Omega.{arith}
 use mathlib.Core.Bool.{Bool, true, false, cond, not}
 use lib.Dec.{T, ltb, ltb→lt, nltb→le, lt→ltb, le→leb, leb→le, nleb→lt}
 use lib.IntN.{ℤ, pos, negsuc, negℤ, subℕ, _+ℤ_, _-ℤ_, natAbs}
-use lib.Signed.{leZ, ltZ}
+use lib.Signed.{_≤ℤ_, leZ, ltZ}
 
 abbrev pub more : ℤ → ℕ
 more (pos n) = n
@@ -92,6 +92,10 @@ pub →leZ : (a b : ℤ) → more a + less b ≤ more b + less a → T (leZ a b)
 →leZ (pos a) (negsuc b) h = absurd (omega arith)
 →leZ (negsuc a) (pos b) h = tt
 →leZ (negsuc a) (negsuc b) h = le→leb b a (omega arith)
+
+-- and its order
+pub order : {a b : ℤ} → a ≤ᶻ b → a ≤ℤ b
+order {a} {b} h = record { le = →leZ a b (h .le) }
 
 pub →ltZ : (a b : ℤ) → more a + less b < more b + less a → T (ltZ a b)
 →ltZ (pos a) (pos b) h = lt→ltb a b (omega arith)

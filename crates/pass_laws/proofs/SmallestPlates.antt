@@ -11,7 +11,7 @@ use lib.Ieee.{Float}
 use Rattle.emath.specs.Rectangles.{minF, maxF, union}
 use Rattle.emath.specs.Steps.{val, Edge}
 use Rattle.emath.proofs.MinMax.{min-both, max-both}
-use Rattle.emath.proofs.Whole.{minZ, maxZ, min-is, max-is, →leZ, whole}
+use Rattle.emath.proofs.Whole.{minZ, maxZ, min-is, max-is, order, whole}
 use Rattle.emath.proofs.Values.{val-min, val-max}
 use Rattle.emath.proofs.Casts.{points-to-steps}
 use Rattle.emath.proofs.Sums.{edge-small}
@@ -27,7 +27,7 @@ use Rattle.pass_laws.specs.WholeCells.{WholeCells}
 
 -- ---- rectangles that hold others
 trans : {a b c : ℤ} → a ≤ℤ b → b ≤ℤ c → a ≤ℤ c
-trans {a} {b} {c} h k = record { le = →leZ a c (omega (arith, whole)) }
+trans h k = order (omega (arith, whole))
 
 pub holds-itself : (t : Ticks) → Holds t t
 holds-itself t = record { left = ≤ℤ-refl _; top = ≤ℤ-refl _; right = ≤ℤ-refl _; bottom = ≤ℤ-refl _ }
@@ -51,44 +51,37 @@ union-least k t a b A B = record {
   bottom = max-both (λ (x : Float). ticks k x ≤ℤ t .bottom) (a .bottom) (b .bottom) (A .bottom) (B .bottom);
 }
 
-low : (a b : ℤ) → (minZ a b ≤ℤ a) × (minZ a b ≤ℤ b)
-low a b = (record { le = →leZ (minZ a b) a (omega (arith, min-is a b)) }, record { le = →leZ (minZ a b) b (omega (arith, min-is a b)) })
-
-high : (a b : ℤ) → (a ≤ℤ maxZ a b) × (b ≤ℤ maxZ a b)
-high a b = (record { le = →leZ a (maxZ a b) (omega (arith, max-is a b)) }, record { le = →leZ b (maxZ a b) (omega (arith, max-is a b)) })
-
 module _ (k : ℕ) (l : k ≤ 7) where
-  lesser : {x y : Float} → Edge k x → Edge k y → ticks k (minF x y) ≡ minZ (ticks k x) (ticks k y)
-  lesser {x} {y} X Y =
+  -- the lesser is no more than either number, and the greater no less
+  min-low : {x y : Float} → Edge k x → Edge k y → (ticks k (minF x y) ≤ℤ ticks k x) × (ticks k (minF x y) ≤ℤ ticks k y)
+  min-low {x} {y} X Y =
       let A = edge-small k l X in
       let B = edge-small k l Y in
-      let m : minF x y ≡ val k (minZ (X .steps) (Y .steps)) = rw (X .is, Y .is) (val-min k (omega arith) (X .steps) (Y .steps) (omega arith) (omega arith)) in
-      rw (m, steps-are k l x X, steps-are k l y Y) (points-to-steps k (omega arith) (minZ (X .steps) (Y .steps)) (omega (arith, min-is (X .steps) (Y .steps))) .1)
+      let a = X .steps in
+      let b = Y .steps in
+      let m : minF x y ≡ val k (minZ a b) = rw (X .is, Y .is) (val-min k (omega arith) a b (omega arith) (omega arith)) in
+      let t : ticks k (minF x y) ≡ minZ a b = rw m (points-to-steps k (omega arith) (minZ a b) (omega (arith, min-is a b)) .1) in
+      rw (t, steps-are k l x X, steps-are k l y Y) (order (omega (arith, min-is a b)), order (omega (arith, min-is a b)))
 
-  greater : {x y : Float} → Edge k x → Edge k y → ticks k (maxF x y) ≡ maxZ (ticks k x) (ticks k y)
-  greater {x} {y} X Y =
+  max-high : {x y : Float} → Edge k x → Edge k y → (ticks k x ≤ℤ ticks k (maxF x y)) × (ticks k y ≤ℤ ticks k (maxF x y))
+  max-high {x} {y} X Y =
       let A = edge-small k l X in
       let B = edge-small k l Y in
-      let m : maxF x y ≡ val k (maxZ (X .steps) (Y .steps)) = rw (X .is, Y .is) (val-max k (omega arith) (X .steps) (Y .steps) (omega arith) (omega arith)) in
-      rw (m, steps-are k l x X, steps-are k l y Y) (points-to-steps k (omega arith) (maxZ (X .steps) (Y .steps)) (omega (arith, max-is (X .steps) (Y .steps))) .1)
+      let a = X .steps in
+      let b = Y .steps in
+      let m : maxF x y ≡ val k (maxZ a b) = rw (X .is, Y .is) (val-max k (omega arith) a b (omega arith) (omega arith)) in
+      let t : ticks k (maxF x y) ≡ maxZ a b = rw m (points-to-steps k (omega arith) (maxZ a b) (omega (arith, max-is a b)) .1) in
+      rw (t, steps-are k l x X, steps-are k l y Y) (order (omega (arith, max-is a b)), order (omega (arith, max-is a b)))
 
   -- and the union holds both
   union-holds : (a b : Rect) → WholeRect k a → WholeRect k b → Holds (inTicks k (union a b)) (inTicks k a) × Holds (inTicks k (union a b)) (inTicks k b)
   unfolding union
-  union-holds a b A B = (
-    record {
-      left = rw (lesser (A .left) (B .left)) (low (ticks k (a .left)) (ticks k (b .left)) .0);
-      top = rw (lesser (A .top) (B .top)) (low (ticks k (a .top)) (ticks k (b .top)) .0);
-      right = rw (greater (A .right) (B .right)) (high (ticks k (a .right)) (ticks k (b .right)) .0);
-      bottom = rw (greater (A .bottom) (B .bottom)) (high (ticks k (a .bottom)) (ticks k (b .bottom)) .0);
-    },
-    record {
-      left = rw (lesser (A .left) (B .left)) (low (ticks k (a .left)) (ticks k (b .left)) .1);
-      top = rw (lesser (A .top) (B .top)) (low (ticks k (a .top)) (ticks k (b .top)) .1);
-      right = rw (greater (A .right) (B .right)) (high (ticks k (a .right)) (ticks k (b .right)) .1);
-      bottom = rw (greater (A .bottom) (B .bottom)) (high (ticks k (a .bottom)) (ticks k (b .bottom)) .1);
-    },
-  )
+  union-holds a b A B =
+      let left = min-low (A .left) (B .left) in
+      let top = min-low (A .top) (B .top) in
+      let right = max-high (A .right) (B .right) in
+      let bottom = max-high (A .bottom) (B .bottom) in
+      (record { left = left .0; top = top .0; right = right .0; bottom = bottom .0 }, record { left = left .1; top = top .1; right = right .1; bottom = bottom .1 })
 
 -- ---- the union of all
 module _ (k : ℕ) (l : k ≤ 7) where

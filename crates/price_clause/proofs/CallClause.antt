@@ -28,7 +28,7 @@ use Rattle.sheet.proofs.Ticking.{ticks-are}
 use Rattle.sheet.proofs.Slices.{written-length, laid-length, slice-is, pass-few}
 use Rattle.sheet.proofs.Shown.{Shown, shown, pass-all, no-number}
 use Rattle.sheet.specs.Passes.{passes}
-use Rattle.price_clause.specs.Sheets.{FrameNoLess, firstFrame}
+use Rattle.price_clause.specs.Sheets.{FrameNoLess, CellNoLess, firstFrame}
 use Rattle.pass_laws.specs.EachCell.{EachCell}
 use Rattle.pass_laws.specs.Plates.{Holds, HoldsFrames}
 use Rattle.pass_laws.specs.WholeCells.{WholeCells, more}
@@ -46,7 +46,7 @@ next-place c xs k i =
 next-frame : (c : Cell) (xs : List ℤ) (k : ℕ) → frameIn (eight c ++ xs) (suc k) ≡ frameIn xs k
 next-frame c xs k = let e = next-place c xs k in rw (e 0, e 1, e 2, e 3)
 
-frames-in : (cs ds : List Cell) (xs ys : List ℤ) → Forall₂ (λ (c d : Cell). FrameNoLess (inTicks 5 (c .frame)) (inTicks 5 (d .frame))) cs ds
+frames-in : (cs ds : List Cell) (xs ys : List ℤ) → Forall₂ (CellNoLess 5) cs ds
     → (k : ℕ) → k < length cs → FrameNoLess (frameIn (written cs ++ xs) k) (frameIn (written ds ++ ys) k)
 unfolding written
 frames-in [] [] xs ys Forall₂·nil k l = absurd (omega arith)

@@ -7,14 +7,14 @@ use native.Mathlib.Omega.{arith}
 use lib.IntN.{ℤ, _-ℤ_}
 use lib.ListN.{length}
 use lib.Signed.{_≤ℤ_, ≤ℤ-refl}
-use Rattle.emath.proofs.Whole.{diff, →leZ, same, whole}
+use Rattle.emath.proofs.Whole.{diff, order, same, whole}
 use Rattle.sheet.specs.Pass.{Cell, plateOf}
 use Rattle.sheet.specs.Ticks.{Ticks, ticks, inTicks, width, height}
 use Rattle.pass_laws.specs.EachCell.{EachCell, none, more}
 use Rattle.pass_laws.specs.Plates.{Holds, HoldsFrames, Smallest}
 use Rattle.pass_laws.specs.WholeCells.{WholeCells}
 use Rattle.pass_laws.proofs.SmallestPlates.{holds-itself, smallest}
-use Rattle.price_clause.specs.Sheets.{FrameNoLess, PlateNoLess, OneCorner, firstFrame}
+use Rattle.price_clause.specs.Sheets.{FrameNoLess, CellNoLess, PlateNoLess, OneCorner, AtFirstFrames, firstFrame}
 
 -- ---- one corner
 -- a frame starts neither further left than x nor higher than y
@@ -35,17 +35,17 @@ pub data Open (k : ℕ) : List Cell → List Cell → Type 0 where
 pub record PlatesGrow (k : ℕ) (cs ds : List Cell) : Type 0 where
   pub plate : PlateNoLess (inTicks k (plateOf cs)) (inTicks k (plateOf ds))
   pub holds : Holds (inTicks k (plateOf ds)) (inTicks k (plateOf cs))
-  pub corner : 0 < length cs → OneCorner (inTicks k (plateOf cs)) (firstFrame k cs) × OneCorner (inTicks k (plateOf ds)) (firstFrame k ds) × OneCorner (inTicks k (plateOf cs)) (inTicks k (plateOf ds))
+  pub corner : 0 < length cs → AtFirstFrames (inTicks k (plateOf cs)) (firstFrame k cs) (inTicks k (plateOf ds)) (firstFrame k ds)
 
 -- what is held is neither wider nor taller
 held : {a b : Ticks} → Holds b a → PlateNoLess a b
 held {a} {b} h = record {
-  width = record { le = →leZ (width a) (width b) (omega (arith, whole, diff (a .right) (a .left), diff (b .right) (b .left))) };
-  height = record { le = →leZ (height a) (height b) (omega (arith, whole, diff (a .bottom) (a .top), diff (b .bottom) (b .top))) };
+  width = order (omega (arith, whole, diff (a .right) (a .left), diff (b .right) (b .left)));
+  height = order (omega (arith, whole, diff (a .bottom) (a .top), diff (b .bottom) (b .top)));
 }
 
 low : {a b c : ℤ} → a ≡ b → c ≡ b → a ≤ℤ c
-low {a} {b} {c} e f = record { le = →leZ a c (omega (arith, whole)) }
+low e f = order (omega (arith, whole))
 
 between : {a b : ℤ} → a ≤ℤ b → b ≤ℤ a → a ≡ b
 between {a} {b} h k = same a b (omega (arith, whole))
@@ -66,7 +66,7 @@ module _ (k : ℕ) where
           record { left = between (h .left) (least .left); top = between (h .top) (least .top) }
 
   -- ---- the second plate holds the first's frames
-  in-second : {x y : ℤ} {t : Ticks} {cs ds : List Cell} → t .left ≤ℤ x → t .top ≤ℤ y → Forall₂ (λ (c d : Cell). FrameNoLess (inTicks k (c .frame)) (inTicks k (d .frame))) cs ds
+  in-second : {x y : ℤ} {t : Ticks} {cs ds : List Cell} → t .left ≤ℤ x → t .top ≤ℤ y → Forall₂ (CellNoLess k) cs ds
       → Start k x y cs → HoldsFrames k t ds → HoldsFrames k t cs
   in-second p q Forall₂·nil none none = none
   in-second {x} {y} {t} p q (Forall₂·cons {a = c} {b = d} n rest) (more s starts) (more h others) =
@@ -74,14 +74,14 @@ module _ (k : ℕ) where
     where
       inside : (a b : Ticks) → FrameNoLess a b → Starts x y a → Holds t b → Holds t a
       inside a b n s h = record {
-        left = record { le = →leZ (t .left) (a .left) (omega (arith, whole)) };
-        top = record { le = →leZ (t .top) (a .top) (omega (arith, whole)) };
-        right = record { le = →leZ (a .right) (t .right) (omega (arith, whole, diff (a .right) (a .left), diff (b .right) (b .left))) };
-        bottom = record { le = →leZ (a .bottom) (t .bottom) (omega (arith, whole, diff (a .bottom) (a .top), diff (b .bottom) (b .top))) };
+        left = order (omega (arith, whole));
+        top = order (omega (arith, whole));
+        right = order (omega (arith, whole, diff (a .right) (a .left), diff (b .right) (b .left)));
+        bottom = order (omega (arith, whole, diff (a .bottom) (a .top), diff (b .bottom) (b .top)));
       }
 
   module _ (l : k ≤ 7) where
-    pub plates-grow : {cs ds : List Cell} → WholeCells k cs → WholeCells k ds → Forall₂ (λ (c d : Cell). FrameNoLess (inTicks k (c .frame)) (inTicks k (d .frame))) cs ds → Open k cs ds → PlatesGrow k cs ds
+    pub plates-grow : {cs ds : List Cell} → WholeCells k cs → WholeCells k ds → Forall₂ (CellNoLess k) cs ds → Open k cs ds → PlatesGrow k cs ds
     plates-grow C D n empty = record { plate = held (holds-itself _); holds = holds-itself _; corner = λ h. absurd (omega (arith, h)) }
     plates-grow C D n (both {c = c} {d = d} {cs = cs} {ds = ds} e s t) =
         let S = smallest k l C (omega arith) in
@@ -92,5 +92,5 @@ module _ (k : ℕ) where
         record {
           plate = held h;
           holds = h;
-          corner = λ some. (p, q, record { left = p .left ∙ e .left ∙ sym (q .left); top = p .top ∙ e .top ∙ sym (q .top) });
+          corner = λ some. record { first = p; second = q; both = record { left = p .left ∙ e .left ∙ sym (q .left); top = p .top ∙ e .top ∙ sym (q .top) } };
         }

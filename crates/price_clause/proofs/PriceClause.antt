@@ -6,13 +6,12 @@ use mathlib.Core.Bool.{Bool, true, false}
 use mathlib.Core.List.{Forall₂}
 use native.Mathlib.Omega.{arith}
 use Rattle.grid.specs.declared.Memory.{Memory}
-use Rattle.sheet.specs.Pass.{Sheet, Cell, Outcome, plateOf, pass}
-use Rattle.sheet.specs.Ticks.{inTicks}
+use Rattle.sheet.specs.Pass.{Sheet, Outcome, plateOf, pass}
 use Rattle.sheet.specs.Passes.{passes}
 use Rattle.sheet.proofs.Passes.{pass-plate}
 use Rattle.pass_laws.specs.WholeCells.{WholeCells}
 use Rattle.pass_laws.specs.WholeSheets.{WholeSheet}
-use Rattle.price_clause.specs.Sheets.{FrameNoLess}
+use Rattle.price_clause.specs.Sheets.{CellNoLess}
 use Rattle.price_clause.specs.PriceClause.{NoLess, PriceClause, OfText}
 use Rattle.price_clause.proofs.Plates.{Open, plates-grow}
 use Rattle.price_clause.proofs.OfStrips.Strips.{strips-grow}
@@ -39,7 +38,7 @@ clause-of k l Is w = record {
 }
   where
     no-less : {a b : Outcome} → a .plate ≡ plateOf (a .cells) → b .plate ≡ plateOf (b .cells) → WholeCells k (a .cells) → WholeCells k (b .cells)
-        → Forall₂ (λ (c d : Cell). FrameNoLess (inTicks k (c .frame)) (inTicks k (d .frame))) (a .cells) (b .cells) → Open k (a .cells) (b .cells) → NoLess k a b
+        → Forall₂ (CellNoLess k) (a .cells) (b .cells) → Open k (a .cells) (b .cells) → NoLess k a b
     no-less e f C D n o = let p = plates-grow k (omega arith) C D n o in record { frames = n; plate = rw (e, f) (p .plate); holds = rw (e, f) (p .holds); corner = λ some. rw (e, f) (p .corner some) }
 
     cells-of : (s : Sheet) (known : Bool) (m : Memory) (sizing : Bool) → WholeCells k (pass k s known m sizing .cells)

@@ -19,7 +19,7 @@ use Rattle.sheet.specs.Pass.{Cell}
 use Rattle.sheet.specs.Ticks.{Ticks, inTicks}
 use Rattle.sheet.specs.Texts.{sheetIn}
 use Rattle.sheet.specs.Slices.{Called, laid, controls}
-use Rattle.price_clause.specs.Sheets.{GrownSheet, NoNegativeSpacing, Strip, FrameNoLess, PlateNoLess, OneCorner, cellAt}
+use Rattle.price_clause.specs.Sheets.{GrownSheet, NoNegativeSpacing, Strip, FrameNoLess, PlateNoLess, AtFirstFrames, cellAt}
 use Rattle.pass_laws.specs.Columns.{inColumn, widest}
 use Rattle.pass_laws.specs.Plates.{Holds}
 use Rattle.pass_laws.specs.Tops.{TopsOnSteps, NoK}
@@ -50,8 +50,7 @@ pub record NoLessIn (count : ℕ) (p q : Passed) (out out′ : List ℤ) : Type 
   pub plate : PlateNoLess (inTicks tick (p .plate)) (inTicks tick (q .plate))
   -- RULES 10.4: and more: the second plate holds the first, and with a W both have one left top corner, that of their first frames
   pub holds : Holds (inTicks tick (q .plate)) (inTicks tick (p .plate))
-  pub corner : 0 < count
-      → OneCorner (inTicks tick (p .plate)) (frameIn out 0) × OneCorner (inTicks tick (q .plate)) (frameIn out′ 0) × OneCorner (inTicks tick (p .plate)) (inTicks tick (q .plate))
+  pub corner : 0 < count → AtFirstFrames (inTicks tick (p .plate)) (frameIn out 0) (inTicks tick (q .plate)) (frameIn out′ 0)
 
 -- RULES 6.19: t is the smallest rectangle around the frames of so many W: it holds each, and any other that does so holds it
 pub record SmallestIn (count : ℕ) (t : Ticks) (out : List ℤ) : Type 0 where

@@ -10,10 +10,10 @@ use Rattle.region.specs.Refusals.{zeroRect}
 use Rattle.region.specs.Steps.{WholeRect}
 use Rattle.grid.specs.Memories.{colWidth}
 use Rattle.grid.specs.declared.Memory.{Memory}
-use Rattle.sheet.specs.Pass.{Sheet, Cell, Outcome, pass}
+use Rattle.sheet.specs.Pass.{Sheet, Outcome, pass}
 use Rattle.sheet.specs.Passes.{passes}
 use Rattle.sheet.specs.Slices.{controls}
-use Rattle.price_clause.specs.Sheets.{GrownSheet, NoNegativeSpacing, Strip, FrameNoLess, PlateNoLess, OneCorner, firstFrame}
+use Rattle.price_clause.specs.Sheets.{GrownSheet, NoNegativeSpacing, Strip, CellNoLess, PlateNoLess, AtFirstFrames, firstFrame}
 use Rattle.sheet.specs.Ticks.{inTicks}
 use Rattle.pass_laws.specs.WholeCells.{WholeCells}
 use Rattle.pass_laws.specs.Plates.{Holds, Smallest}
@@ -27,12 +27,11 @@ Accepted o = o .number ≡ 0
 
 -- RULES 10.4: what the clause concludes of two passes, in ticks: each frame beside the one of the same W, and the plates
 pub record NoLess (k : ℕ) (a b : Outcome) : Type 0 where
-  pub frames : Forall₂ (λ (c d : Cell). FrameNoLess (inTicks k (c .frame)) (inTicks k (d .frame))) (a .cells) (b .cells)
+  pub frames : Forall₂ (CellNoLess k) (a .cells) (b .cells)
   pub plate : PlateNoLess (inTicks k (a .plate)) (inTicks k (b .plate))
   -- RULES 10.4: and more: the second plate holds the first, and with a W both have one left top corner, that of their first frames
   pub holds : Holds (inTicks k (b .plate)) (inTicks k (a .plate))
-  pub corner : 0 < length (a .cells)
-      → OneCorner (inTicks k (a .plate)) (firstFrame k (a .cells)) × OneCorner (inTicks k (b .plate)) (firstFrame k (b .cells)) × OneCorner (inTicks k (a .plate)) (inTicks k (b .plate))
+  pub corner : 0 < length (a .cells) → AtFirstFrames (inTicks k (a .plate)) (firstFrame k (a .cells)) (inTicks k (b .plate)) (firstFrame k (b .cells))
 
 -- RULES 10.3: a sheet that was read from a text
 pub record OfText (s : Sheet) : Type 0 where

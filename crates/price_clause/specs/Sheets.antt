@@ -46,16 +46,26 @@ pub record FrameNoLess (a b : Ticks) : Type 0 where
   pub width : width a ≤ℤ width b
   pub height : height a ≤ℤ height b
 
+-- RULES 10.4: so the frame of a W d beside that of a W c
+abbrev pub CellNoLess : ℕ → Cell → Cell → Type 0
+CellNoLess k c d = FrameNoLess (inTicks k (c .frame)) (inTicks k (d .frame))
+
 -- RULES 10.4: a plate b beside a plate a: what is sold is the extent
 pub record PlateNoLess (a b : Ticks) : Type 0 where
   pub width : width a ≤ℤ width b
   pub height : height a ≤ℤ height b
 
--- RULES 10.4: two rectangles with one left top corner; and W number n's rectangles among those of a pass, and the first frame
+-- RULES 10.4: two rectangles with one left top corner; and two plates p and q that have that of their first frames, f and g
 pub record OneCorner (a b : Ticks) : Type 0 where
   pub left : a .left ≡ b .left
   pub top : a .top ≡ b .top
 
+pub record AtFirstFrames (p f q g : Ticks) : Type 0 where
+  pub first : OneCorner p f
+  pub second : OneCorner q g
+  pub both : OneCorner p q
+
+-- RULES 10.4: W number n's rectangles among those of a pass, and the first frame
 abbrev pub cellAt : List Cell → ℕ → Cell
 cellAt cells n = getD cells n (record { frame = zeroRect; widget = zeroRect })
 

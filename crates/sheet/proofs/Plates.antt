@@ -9,11 +9,11 @@ use borrow.Author.Tests.{ltb-false}
 use lib.IntN.{pos}
 use lib.Ieee.{Float, ofBits}
 use Rattle.emath.specs.Rectangles.{zeroF, union}
-use Rattle.emath.specs.Steps.{tick, val, Edge}
+use Rattle.emath.specs.Steps.{tick, Edge}
 use Rattle.emath.specs.Implementation.NoNaN.{IsNumber, Numbers}
 use Rattle.emath.proofs.MinMax.{min-both, max-both}
-use Rattle.emath.proofs.Exact.{val-is, ne-is}
-use Rattle.emath.proofs.Sums.{edge-small}
+use Rattle.emath.proofs.Edges.{edge-within}
+use Rattle.emath.proofs.Refusals.{no-nan}
 use Rattle.emath.proofs.Zeros.{val-zero}
 use Rattle.emath.specs.declared.Rect.{Rect}
 use Rattle.region.specs.Refusals.{zeroRect}
@@ -29,12 +29,12 @@ pub zero-rect : (k : ℕ) → WholeRect k zeroRect
 zero-rect k = let e = zero-edge k in record { left = e; top = e; right = e; bottom = e }
 
 -- ---- one frame more
--- a whole number of ticks is no NaN
-number : {x : Float} → Edge tick x → IsNumber x
-number {x} e = rw (e .is) (ne-is (val tick (e .steps)) tick (e .steps) (val-is tick (e .steps) (omega arith) (omega (arith, edge-small tick (omega arith) e))))
-
+-- what is in whole ticks of the domain has no NaN
 pub rect-numbers : {r : Rect} → WholeRect tick r → Numbers r
-rect-numbers w = record { left = number (w .left); top = number (w .top); right = number (w .right); bottom = number (w .bottom) }
+rect-numbers {r} w = record { left = number (w .left); top = number (w .top); right = number (w .right); bottom = number (w .bottom) }
+  where
+    number : {x : Float} → Edge tick x → IsNumber x
+    number {x} e = no-nan x (edge-within tick (omega arith) x e)
 
 pub union-whole : (k : ℕ) (a b : Rect) → WholeRect k a → WholeRect k b → WholeRect k (union a b)
 unfolding union

@@ -59,6 +59,26 @@ const PLACE: usize = CALL + 1;
 const KNOWN: usize = PLACE + 1;
 const SAVE: usize = KNOWN + 1;
 
+/// Declares crate probe_sheet's pass, or one by another name that has its parameters: a text and a
+/// slice of rectangles, each a pointer and a length, and packed values, given and answered.
+#[macro_export]
+macro_rules! declare_pass {
+    ($vis:vis $name:ident) => {
+        unsafe extern "C" {
+            $vis fn $name(
+                text: *const u8,
+                len: usize,
+                lengths: &$crate::Lengths,
+                counts: &$crate::Counts,
+                out: *mut i32,
+                room: usize,
+                out_lengths: &mut $crate::Lengths,
+                out_counts: &mut $crate::Counts,
+            ) -> u8;
+        }
+    };
+}
+
 /// In a place that is to be written: no case expects it there.
 pub const UNTOUCHED: f32 = 1.234_567_8e-30;
 pub const NOWHERE: usize = usize::MAX;

@@ -1,7 +1,7 @@
 //! The Rattle's entry points: of this tree, and of an earlier one where the benchmark was given it.
 
 use egui::grid::driver::Memory;
-use packing::{Counts, Lengths, Packed};
+use packing::Packed;
 
 use crate::place::Laid;
 use crate::records::Fault;
@@ -10,19 +10,10 @@ use crate::write::ROOM;
 macro_rules! entry_points {
     ($tree:ident: $pass:ident, $print:ident, $write_line:ident) => {
         mod $tree {
-            use super::{Counts, Lengths, ROOM};
+            use super::ROOM;
 
+            packing::declare_pass!(pub $pass);
             unsafe extern "C" {
-                pub fn $pass(
-                    text: *const u8,
-                    len: usize,
-                    lengths: &Lengths,
-                    counts: &Counts,
-                    out: *mut i32,
-                    room: usize,
-                    out_lengths: &mut Lengths,
-                    out_counts: &mut Counts,
-                ) -> u8;
                 pub fn $print(text: *const u8, len: usize, out: &mut [u8; ROOM]) -> usize;
                 pub fn $write_line(
                     out: *mut u8,

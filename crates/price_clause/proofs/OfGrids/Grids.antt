@@ -20,8 +20,7 @@ use Rattle.model.proofs.InFloats.InTicks.{Frame≤, Opened, grids-in-ticks}
 use Rattle.sheet.specs.Pass.{Sheet, Cell, Ran, runFrom, pass}
 use Rattle.sheet.specs.Passes.{passes}
 use Rattle.pass_laws.specs.WholeSheets.{WholeSheet}
-use Rattle.price_clause.specs.Sheets.{GrownSheet, NoNegativeSpacing, FrameNoLess}
-use Rattle.sheet.specs.Ticks.{inTicks}
+use Rattle.price_clause.specs.Sheets.{GrownSheet, NoNegativeSpacing, CellNoLess}
 use Rattle.sheet.proofs.Passes.{GridPass, grid-pass, start, gridStart}
 use Rattle.pass_laws.proofs.ColumnLaw.{saved-is}
 use Rattle.price_clause.proofs.Plates.{Open}
@@ -151,7 +150,7 @@ module _ (k B : ℕ) (l : k ≤ 6) (e : B ≡ most k) (a b : Sheet) (m m′ : Me
 
 pub grids-grow : (k : ℕ) → k ≤ 6 → (a b : Sheet) (m m′ : Memory) → GrownSheet a b → WholeSheet k a → WholeSheet k b → a .heading .«has_grid» ≡ true → NoNegativeSpacing a
     → passes k a m 0 .number ≡ 0 → passes k a m 1 .number ≡ 0 → passes k b m′ 0 .number ≡ 0 → passes k b m′ 1 .number ≡ 0
-    → Forall₂ (λ (c d : Cell). FrameNoLess (inTicks k (c .frame)) (inTicks k (d .frame))) (passes k a m 1 .cells) (passes k b m′ 1 .cells)
+    → Forall₂ (CellNoLess k) (passes k a m 1 .cells) (passes k b m′ 1 .cells)
     × Open k (passes k a m 1 .cells) (passes k b m′ 1 .cells)
 grids-grow k l a b m m′ g wa wb t n a₀ a₁ b₀ b₁ =
     let r = in-counts k (most k) l refl a b m m′ g wa wb t n a₀ a₁ b₀ b₁ in

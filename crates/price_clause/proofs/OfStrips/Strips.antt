@@ -5,12 +5,12 @@ use mathlib.Core.List.{List, [], _∷_, Forall₂, Forall₂·nil, Forall₂·co
 use Prim.Native.Nat.{ℕ, _+_, _≤_}
 use native.Mathlib.Omega.{arith}
 use lib.IntN.{ℤ, pos, _+ℤ_, _-ℤ_}
-use lib.Signed.{_≤ℤ_, leZ-yes}
+use lib.Signed.{≤ℤ-refl}
 use lib.Ieee.{Float, le}
 use Rattle.emath.specs.Rectangles.{zeroF}
 use Rattle.emath.specs.Refusals.{rectFault}
 use Rattle.emath.specs.Steps.{val, Edge}
-use Rattle.emath.proofs.Whole.{_≤ᶻ_, sum, diff, →leZ, whole}
+use Rattle.emath.proofs.Whole.{_≤ᶻ_, sum, diff, order, whole}
 use Rattle.emath.proofs.Casts.{points-to-steps}
 use Rattle.emath.proofs.Sums.{edge-small}
 use Rattle.emath.specs.declared.Vec2.{Vec2}
@@ -25,7 +25,7 @@ use Rattle.records.specs.declared.Step.{Step}
 use Rattle.records.specs.declared.Step.the-variants.{Widget, RowEnd}
 use Rattle.sheet.specs.Pass.{Sheet, Cell, Ran, runFrom, pass}
 use Rattle.pass_laws.specs.WholeSheets.{WholeSteps, WholeSheet}
-use Rattle.price_clause.specs.Sheets.{Grown, GrownSheet, NoNegativeSpacing, Strip, FrameNoLess}
+use Rattle.price_clause.specs.Sheets.{Grown, GrownSheet, NoNegativeSpacing, Strip, FrameNoLess, CellNoLess}
 use Rattle.sheet.specs.Ticks.{Ticks, ticks, inTicks}
 use Rattle.sheet.proofs.Passes.{plain-pass, start}
 use Rattle.pass_laws.specs.EachCell.{EachCell}
@@ -34,9 +34,6 @@ use Rattle.price_clause.proofs.OfStrips.StripPlaces.{Place, placerAt, F
 use Rattle.price_clause.proofs.OfStrips.StripSteps.{pastControl, Goes, ControlGoes, row-end-goes, control-goes}
 
 -- ---- rectangles in steps, read in ticks
-order : (a b : ℤ) → a ≤ᶻ b → a ≤ℤ b
-order a b h = leZ-yes (→leZ a b (h .le))
-
 module _ (k : ℕ) (l : k ≤ 7) where
   ticks-is : (z : ℤ) → Few z → ticks k (val k z) ≡ z
   ticks-is z Z = points-to-steps k (omega arith) z (omega arith) .1
@@ -63,10 +60,10 @@ past-beside o o′ B s w h w′ h′ W = record {
 frame-beside : (o o′ : Place) → Beside o o′ → (w h w′ h′ : ℤ) → w ≤ᶻ w′ → h ≤ᶻ h′
     → FrameNoLess (record { left = o .x; top = o .top; right = o .x +ℤ w; bottom = o .top +ℤ h }) (record { left = o′ .x; top = o′ .top; right = o′ .x +ℤ w′; bottom = o′ .top +ℤ h′ })
 frame-beside o o′ B w h w′ h′ W H = record {
-  left = order (o .x) (o′ .x) (B .x);
-  top = order (o .top) (o′ .top) (omega (arith, whole));
-  width = order (o .x +ℤ w -ℤ o .x) (o′ .x +ℤ w′ -ℤ o′ .x) (omega (arith, sum (o .x) w, sum (o′ .x) w′, diff (o .x +ℤ w) (o .x), diff (o′ .x +ℤ w′) (o′ .x)));
-  height = order (o .top +ℤ h -ℤ o .top) (o′ .top +ℤ h′ -ℤ o′ .top) (omega (arith, sum (o .top) h, sum (o′ .top) h′, diff (o .top +ℤ h) (o .top), diff (o′ .top +ℤ h′) (o′ .top)));
+  left = order (B .x);
+  top = order (omega (arith, whole));
+  width = order (omega (arith, sum (o .x) w, sum (o′ .x) w′, diff (o .x +ℤ w) (o .x), diff (o′ .x +ℤ w′) (o′ .x)));
+  height = order (omega (arith, sum (o .top) h, sum (o′ .top) h′, diff (o .top +ℤ h) (o .top), diff (o′ .top +ℤ h′) (o′ .top)));
 }
 
 same-start : (k : ℕ) {x x′ y y′ : ℤ} {cs : List Cell} → x ≡ x′ → y ≡ y′ → Start k x′ y′ cs → Start k x y cs
@@ -80,9 +77,6 @@ row-end-whole : {k : ℕ} {rest : List Step} → WholeSteps k (RowEnd ∷ rest) 
 row-end-whole (WholeSteps.rowEnd r) = r
 
 -- ---- two runs
-abbrev pub CellNoLess : ℕ → Cell → Cell → Type 0
-CellNoLess k c d = FrameNoLess (inTicks k (c .frame)) (inTicks k (d .frame))
-
 -- from the places o and o′: no frame of the second is less; none starts before min_rect's corner; and where the cursor is still there, the
 -- first ones stand at it
 pub record RanNoLess (k : ℕ) (o o′ : Place) (r r′ : Ran) : Type 0 where
@@ -108,7 +102,7 @@ module _ (k : ℕ) (l : k ≤ 6) (a : Align) (sp : Vec2) (s : ℤ) (gap : sp .x 
       rw (frame-is O c, frame-is O′ c′) (frame-beside o o′ B w h w′ h′ W H)
 
   frame-starts : {n : ℕ} {o : Place} {w h : ℤ} {x : List Step} {r : Ran} → Sound o → (c : ControlGoes k a sp s n o w h x r) → Starts (o .left) (o .top) (inTicks k (c .cell .frame))
-  frame-starts {o = o} O c = rw (frame-is O c) (record { left = order (o .left) (o .x) (O .past); top = order (o .top) (o .top) (omega arith) })
+  frame-starts {o = o} O c = rw (frame-is O c) (record { left = order (O .past); top = ≤ℤ-refl (o .top) })
 
   -- where what comes after a W or an E is no less, it is so with it
   after-control : {n : ℕ} {o o′ : Place} {w h w′ h′ : ℤ} {x y : List Step} {r r′ : Ran} → Sound o → Sound o′ → Beside o o′ → (c : ControlGoes k a sp s n o w h x r) (c′ : ControlGoes k a sp s n o′ w′ h′ y r′)
@@ -177,7 +171,7 @@ headed-grows k l h a i W S some f {x} {y} G X Y e e′ =
 pub strips-grow : (k : ℕ) → k ≤ 6 → (a b : Sheet) → GrownSheet a b → WholeSheet k a → WholeSheet k b → Strip a → NoNegativeSpacing a
     → (known known′ : Bool) (m m′ : Memory) (sizing sizing′ : Bool)
     → pass k a known m sizing .number ≡ 0 → pass k b known′ m′ sizing′ .number ≡ 0
-    → Forall₂ (λ (c d : Cell). FrameNoLess (inTicks k (c .frame)) (inTicks k (d .frame))) (pass k a known m sizing .cells) (pass k b known′ m′ sizing′ .cells)
+    → Forall₂ (CellNoLess k) (pass k a known m sizing .cells) (pass k b known′ m′ sizing′ .cells)
     × Open k (pass k a known m sizing .cells) (pass k b known′ m′ sizing′ .cells)
 strips-grow k l a b G A B S N known known′ m m′ sizing sizing′ e e′ =
     let P = plain-pass k a known m sizing (S .no-grid) e in

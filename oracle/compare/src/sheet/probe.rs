@@ -2,7 +2,7 @@
 //! there. A slice goes there as a pointer and a length, and a bool comes back as a byte.
 
 #[cfg(feature = "placer")]
-use packing::{Counts, Lengths, Packed};
+use packing::Packed;
 
 use super::answers::{Checked, FieldRead, HeadingRead, RecordRead, Written};
 #[cfg(feature = "placer")]
@@ -11,6 +11,9 @@ use super::driver::{Given, Passed};
 /// What a list is printed into: room for 512 W, P, 32 C and 128 D.
 #[cfg(feature = "placer")]
 pub const LIST_ROOM: usize = 40_802;
+
+#[cfg(feature = "placer")]
+packing::declare_pass!(sheet_pass);
 
 unsafe extern "C" {
     fn field_read(text: *const u8, len: usize, at: usize, limit: u32, value: &mut [i32; 1]) -> u8;
@@ -23,17 +26,6 @@ unsafe extern "C" {
     ) -> usize;
     fn record_read(text: *const u8, len: usize, at: usize, lengths: &mut [f32; 2]) -> u8;
     fn sheet_check(text: *const u8, len: usize, room: usize, counts: &mut [usize; 2]) -> u8;
-    #[cfg(feature = "placer")]
-    fn sheet_pass(
-        text: *const u8,
-        len: usize,
-        lengths: &Lengths,
-        counts: &Counts,
-        out: *mut i32,
-        room: usize,
-        out_lengths: &mut Lengths,
-        out_counts: &mut Counts,
-    ) -> u8;
     #[cfg(feature = "placer")]
     fn listing_print(text: *const u8, len: usize, out: &mut [u8; LIST_ROOM]) -> usize;
     fn line_write(

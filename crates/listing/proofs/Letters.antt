@@ -4,7 +4,8 @@ use mathlib.Core.Path.{_≡_, refl, sym}
 use mathlib.Core.Bool.{Bool, true, false, cond, _&&_, true≢false}
 use mathlib.Core.List.{List}
 use lib.Dec.{eqb}
-use Rattle.records.specs.Parts.{letter, ends, lengthIn, isLength, lengthValue}
+use Rattle.records.specs.declared.SizeUnit.{SizeUnit}
+use Rattle.records.specs.Parts.{letter, ends, lengthIn, sizeIn, isLength, lengthValue}
 use Rattle.records.specs.Records.{stepRecord, widgetRecord, singleRecord, recordOf}
 use Rattle.records.specs.Sheets.{widget, widgetStep}
 use Rattle.records.specs.Implementation.SizeCache.{isStep}
@@ -27,9 +28,9 @@ step-holds : (s : List ℕ) (n : ℕ) (b : Bool) (st : Step) → Holds (widgetSt
 unfolding stepRecord widget
 step-holds s n b st = either (b && ends s n) (so refl) wrong
 
-widget-one : (s : List ℕ) → Holds 1 (widgetRecord s)
+widget-one : (u : SizeUnit) (s : List ℕ) → Holds 1 (widgetRecord u s)
 unfolding widgetRecord widgetStep
-widget-one s = step-holds s 2 (isLength (lengthIn s 0) && isLength (lengthIn s 1)) (Widget (lengthValue (lengthIn s 0)) (lengthValue (lengthIn s 1)))
+widget-one u s = step-holds s 2 (isLength (sizeIn u s 0) && isLength (sizeIn u s 1)) (Widget (lengthValue (sizeIn u s 0)) (lengthValue (sizeIn u s 1)))
 
 single-none : (s : List ℕ) (b : ℕ) → Holds 0 (singleRecord s b)
 unfolding singleRecord widgetStep
@@ -44,17 +45,17 @@ single-none s b =
     (either (eqb b 84) (step-holds s 1 f (MinHeight x)) wrong)))))
 
 -- by its letter
-by-letter : (s : List ℕ) → Holds (mark s) (recordOf s)
+by-letter : (u : SizeUnit) (s : List ℕ) → Holds (mark s) (recordOf u s)
 unfolding recordOf mark widgetStep
-by-letter s = go (eqb (letter s) 87)
+by-letter u s = go (eqb (letter s) 87)
   where
-    go : (c : Bool) → Holds (cond c 1 0) (cond c (widgetRecord s) (cond (eqb (letter s) 69) (stepRecord s 0 true RowEnd) (singleRecord s (letter s))))
-    go true = widget-one s
+    go : (c : Bool) → Holds (cond c 1 0) (cond c (widgetRecord u s) (cond (eqb (letter s) 69) (stepRecord s 0 true RowEnd) (singleRecord s (letter s))))
+    go true = widget-one u s
     go false = either (eqb (letter s) 69) (step-holds s 0 true RowEnd) (single-none s (letter s))
 
-pub mark-is : (s : List ℕ) → isStep (recordOf s) ≡ true → mark s ≡ widget (recordOf s)
+pub mark-is : (u : SizeUnit) (s : List ℕ) → isStep (recordOf u s) ≡ true → mark s ≡ widget (recordOf u s)
 unfolding isStep
-mark-is s h = go (recordOf s) (by-letter s) h
+mark-is u s h = go (recordOf u s) (by-letter u s) h
   where
     go : (r : Record) → Holds (mark s) r → isStep r ≡ true → mark s ≡ widget r
     go r (so e) h = sym e

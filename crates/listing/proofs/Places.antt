@@ -1,4 +1,4 @@
--- A text's W are the controls of its sheet, what stands after H says whether there is a grid, and a refusal's record is at most 600.
+-- A text's W are the controls of its sheet, what stands after H and M says whether there is a grid, and a refusal's record is at most 600.
 -- Assumes nothing.
 use Prim.Native.Nat.{ℕ, suc, _+_, _*_, _≤_}
 use mathlib.Core.Path.{_≡_, refl, ap, sym, _∙_}
@@ -13,8 +13,8 @@ use Rattle.emath.specs.Refusals.{orElse}
 use Rattle.emath.specs.declared.Vec2.{Vec2}
 use Rattle.grid.specs.declared.Memory.{Memory}
 use Rattle.placer.specs.declared.Placer.{Placer}
-use Rattle.records.specs.Records.{headingFits, gridFits, rest}
-use Rattle.records.specs.Headings.{hasGrid, headingIn, headingFault}
+use Rattle.records.specs.Records.{headingFits}
+use Rattle.records.specs.Headings.{hasGrid, headingIn, unitFits, optionsFit, headingFault}
 use Rattle.records.specs.Sheets.{stepsLeft, records, afterAll, wrongFrom, misplaced, widget, widgets, isEmpty, Fault, sheetFault, checked, checkedRecord}
 use Rattle.records.specs.declared.Checked.{Checked}
 use Rattle.records.specs.declared.Checked.the-variants.{Accepted, Refused}
@@ -38,7 +38,7 @@ steps-all (record-of.Wrong ∷ rs) = omega (arith, steps-all rs)
 pub all-controls : (text : List ℕ) → widgets (records text) ≡ controls (sheetIn text .steps)
 all-controls text = steps-all (records text)
 
--- ---- what stands after H says whether the sheet has a grid
+-- ---- what stands after H and M says whether the sheet has a grid
 pub grid-there : (text : List ℕ) → hasGrid text ≡ sheetIn text .heading .«has_grid»
 unfolding headingIn
 grid-there text = refl
@@ -50,13 +50,13 @@ wrong-few k [] = omega arith
 wrong-few k (record-of.Step st ∷ rs) = omega (arith, wrong-few (k + 1) rs)
 wrong-few k (record-of.Wrong ∷ rs) = omega arith
 
-heading-few : (s : List ℕ) → headingFault s ≤ 2
+heading-few : (s : List ℕ) → headingFault s ≤ 3
 unfolding headingFault
-heading-few s = go (headingFits s) (hasGrid s) (gridFits (rest s))
+heading-few s = go (headingFits s) (unitFits s) (optionsFit s)
   where
-    go : (a b c : Bool) → cond a (cond b (cond c 0 2) 0) 1 ≤ 2
+    go : (a b c : Bool) → cond a (cond b (cond c 0 (headingIn s .records)) 2) 1 ≤ 3
     go true true true = omega arith
-    go true true false = omega arith
+    go true true false = omega (arith, few-records s .1)
     go true false c = omega arith
     go false b c = omega arith
 
@@ -65,7 +65,7 @@ unfolding misplaced orElse
 misplaced-few text = go (eqb (headingFault text) 0)
   where
     go : (b : Bool) → cond b (wrongFrom (headingIn text .records + 1) (records text)) (headingFault text) ≤ 515
-    go true = omega (arith, few-records text, wrong-few (headingIn text .records + 1) (records text), records-few (stepsLeft text) (drop (headingIn text .next) text))
+    go true = omega (arith, few-records text, wrong-few (headingIn text .records + 1) (records text), records-few (headingIn text .unit) (stepsLeft text) (drop (headingIn text .next) text))
     go false = omega (arith, heading-few text)
 
 fault-few : (text : List ℕ) (room : ℕ) → sheetFault text room .at ≤ 600
@@ -130,4 +130,4 @@ laid-few text known m sizing out = go (checked text (length out)) refl
   where
     go : (c : Checked) → checked text (length out) ≡ c → afterCheck c text known m sizing out .outcome .at ≤ 600
     go (Refused n at) e = checked-few text (length out) n at e
-    go (Accepted r w) e = omega (arith, pass-few 5 (sheetIn text) known m sizing, steps-few (records text), records-few (stepsLeft text) (drop (headingIn text .next) text), few-records text)
+    go (Accepted r w) e = omega (arith, pass-few 5 (sheetIn text) known m sizing, steps-few (records text), records-few (headingIn text .unit) (stepsLeft text) (drop (headingIn text .next) text), few-records text)

@@ -18,6 +18,7 @@ use Rattle.grid.specs.declared.Memory.{Memory}
 use Rattle.text.specs.Lines.{texts, line, haveTexts}
 use Rattle.text.proofs.LineTexts.{texts-length, sets-append}
 use Rattle.records.specs.Parts.{letter}
+use Rattle.records.specs.declared.SizeUnit.{SizeUnit}
 use Rattle.records.specs.Records.{recordOf, rest}
 use Rattle.records.specs.Headings.{headingIn}
 use Rattle.records.specs.Sheets.{recordsFrom, stepsLeft, records, wrongFrom, widget, widgets}
@@ -108,14 +109,14 @@ next-places cells k c xs e =
     ap (λ (i : ℕ). drop i cells) n ∙ sym (drop-drop 8 (8 * k) cells) ∙ ap (λ (l : List ℤ). drop 8 l) e
 
 -- records without a fault, and a cell for each W among them
-pub record Ready (left n k : ℕ) (u : List ℕ) (cells : List ℤ) (p : Put) (cs : List Cell) : Type 0 where
-  pub well : wrongFrom n (recordsFrom left u) ≡ 0
+pub record Ready (v : SizeUnit) (left n k : ℕ) (u : List ℕ) (cells : List ℤ) (p : Put) (cs : List Cell) : Type 0 where
+  pub well : wrongFrom n (recordsFrom v left u) ≡ 0
   pub from : 0 < n
   pub few : n + left ≤ 600
   pub others : List ℤ
   pub there : drop (8 * k) cells ≡ written cs ++ others
   pub whole : WholeCells 5 cs
-  pub all : widgets (recordsFrom left u) ≡ length cs
+  pub all : widgets (recordsFrom v left u) ≡ length cs
   pub room : p .at + 74 * length cs ≤ length (p .out)
 
 pub no-lines : (n : ℕ) (rs : List Record) → widgetLines n rs [] ≡ []
@@ -172,13 +173,13 @@ first-eight : (c : Cell) (cs : List Cell) (others : List ℤ) → written (c ∷
 unfolding written
 first-eight c cs others = refl
 
-abbrev Law : ℕ → Type 0
-Law left = (n k : ℕ) (u : List ℕ) (cells : List ℤ) (p : Put) (cs : List Cell) → Ready left n k u cells p cs → putWidgets left n k u cells p ≡ after p (widgetLines n (recordsFrom left u) cs)
+abbrev Law : SizeUnit → ℕ → Type 0
+Law v left = (n k : ℕ) (u : List ℕ) (cells : List ℤ) (p : Put) (cs : List Cell) → Ready v left n k u cells p cs → putWidgets left n k u cells p ≡ after p (widgetLines n (recordsFrom v left u) cs)
 
 -- one record more, with m W
-module _ (left n k : ℕ) (r : Record) (u : List ℕ) (cells : List ℤ) (p : Put) (ih : Law left) where
+module _ (v : SizeUnit) (left n k : ℕ) (r : Record) (u : List ℕ) (cells : List ℤ) (p : Put) (ih : Law v left) where
   abbrev rs : List Record
-  rs = recordsFrom left u
+  rs = recordsFrom v left u
 
   record Turn (cs : List Cell) : Type 0 where
     pub well : wrongFrom (n + 1) rs ≡ 0
@@ -198,26 +199,26 @@ module _ (left n k : ℕ) (r : Record) (u : List ℕ) (cells : List ℤ) (p : Pu
   turn m one-here e [] h = absurd (omega (arith, h .all, e))
   turn m one-here e (c ∷ cs) h =
       let d = h .there ∙ first-eight c cs (h .others) in
-      let v = taken-apart (h .whole) in
+      let whole = taken-apart (h .whole) in
       let f = h .few in
       let l = line 87 (pos n ∷ eight c) in
-      let one = ap (λ (zs : List ℤ). putLine 87 (pos n ∷ zs) p) (places cells k c _ d) ∙ put-one 87 (pos n ∷ eight c) p (omega (arith, h .room)) (widget-texts n c (omega (arith, f)) (v .0) (v .1)) in
+      let one = ap (λ (zs : List ℤ). putLine 87 (pos n ∷ zs) p) (places cells k c _ d) ∙ put-one 87 (pos n ∷ eight c) p (omega (arith, h .room)) (widget-texts n c (omega (arith, f)) (whole .0) (whole .1)) in
       ap (λ (q : Put). putWidgets left (n + 1) (k + 1) u cells q) one ∙ ih (n + 1) (k + 1) u cells (after p l) cs
-      (record { well = h .well; from = omega arith; few = omega (arith, f); others = h .others; there = next-places cells k c _ d; whole = v .2; all = omega (arith, h .all, e); room = omega (arith, h .room, room-after p l, line-length 87 (pos n ∷ eight c)) })
+      (record { well = h .well; from = omega arith; few = omega (arith, f); others = h .others; there = next-places cells k c _ d; whole = whole .2; all = omega (arith, h .all, e); room = omega (arith, h .room, room-after p l, line-length 87 (pos n ∷ eight c)) })
       ∙ after-both p l (widgetLines (n + 1) rs cs) ∙ ap (λ (x : List ℕ). after p x) (sym (one-line n r rs c cs e))
 
-pub put-widgets : (left : ℕ) → Law left
+pub put-widgets : (v : SizeUnit) (left : ℕ) → Law v left
 unfolding putWidgets recordsFrom widgetLines
-put-widgets zero n k u cells p cs h = after-none p
-put-widgets (suc left) n k [] cells p cs h = after-none p
-put-widgets (suc left) n k (b ∷ s) cells p cs h =
-    let r = recordOf (b ∷ s) in
-    let w = here-step n r (recordsFrom left (rest (b ∷ s))) (h .from) (h .well) in
-    turn left n k r (rest (b ∷ s)) cells p (put-widgets left) (mark (b ∷ s)) (few-marks (b ∷ s)) (sym (mark-is (b ∷ s) (w .0))) cs
-    (record { well = w .1; few = h .few; others = h .others; there = h .there; whole = h .whole; all = sym (count r (recordsFrom left (rest (b ∷ s)))) ∙ h .all; room = h .room })
+put-widgets v zero n k u cells p cs h = after-none p
+put-widgets v (suc left) n k [] cells p cs h = after-none p
+put-widgets v (suc left) n k (b ∷ s) cells p cs h =
+    let r = recordOf v (b ∷ s) in
+    let w = here-step n r (recordsFrom v left (rest (b ∷ s))) (h .from) (h .well) in
+    turn v left n k r (rest (b ∷ s)) cells p (put-widgets v left) (mark (b ∷ s)) (few-marks (b ∷ s)) (sym (mark-is v (b ∷ s) (w .0))) cs
+    (record { well = w .1; few = h .few; others = h .others; there = h .there; whole = h .whole; all = sym (count r (recordsFrom v left (rest (b ∷ s)))) ∙ h .all; room = h .room })
 
 -- ---- an accepted pass
-pub put-accepted : (text : List ℕ) (cells : List ℤ) (plate : Rect) (m : Memory) (p : Put) (cs : List Cell) → Ready (stepsLeft text) (headingIn text .records + 1) 0 (drop (headingIn text .next) text) cells p cs → WholeRect 5 plate → WholeMemory m
+pub put-accepted : (text : List ℕ) (cells : List ℤ) (plate : Rect) (m : Memory) (p : Put) (cs : List Cell) → Ready (headingIn text .unit) (stepsLeft text) (headingIn text .records + 1) 0 (drop (headingIn text .next) text) cells p cs → WholeRect 5 plate → WholeMemory m
     → p .at + 40802 ≤ length (p .out) → length cs ≤ 512
     → putAccepted text cells plate m p ≡ after p (widgetLines (headingIn text .records + 1) (records text) cs ++ (line 80 (edges (inTicks 5 plate)) ++ memoryLines m))
 unfolding putAccepted
@@ -227,7 +228,7 @@ put-accepted text cells plate m p cs h w v room few =
     let n : length a ≤ 74 * length cs = lines-length (headingIn text .records + 1) (records text) cs in
     let one = put-one 80 zs (after p a) (omega (arith, room, few, n, room-after p a)) (edges-texts plate [] w none-left) in
     let r = line-length 80 zs in
-    ap (λ (q : Put). putMemory m (putLine 80 zs q)) (put-widgets (stepsLeft text) (headingIn text .records + 1) 0 (drop (headingIn text .next) text) cells p cs h) ∙ ap (λ (q : Put). putMemory m q) one
+    ap (λ (q : Put). putMemory m (putLine 80 zs q)) (put-widgets (headingIn text .unit) (stepsLeft text) (headingIn text .records + 1) 0 (drop (headingIn text .next) text) cells p cs h) ∙ ap (λ (q : Put). putMemory m q) one
     ∙ put-memory m (after (after p a) (line 80 zs)) v (omega (arith, room, few, n, r, room-after p a, room-after (after p a) (line 80 zs)))
     ∙ ap (λ (q : Put). after q (memoryLines m)) (after-both p a (line 80 zs)) ∙ after-both p (a ++ line 80 zs) (memoryLines m)
     ∙ ap (λ (l : List ℕ). after p l) (append-assoc a (line 80 zs) (memoryLines m))

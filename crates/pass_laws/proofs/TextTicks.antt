@@ -13,9 +13,13 @@ use Rattle.text.specs.Fields.{fieldAt}
 use Rattle.text.specs.declared.Field.{Field}
 use Rattle.text.specs.declared.Field.the-variants as field
 use Rattle.text.proofs.RoundTrip.{at-is-text}
-use Rattle.records.specs.Parts.{letter, ends, points, inPoints, lengthIn, isLength, lengthValue}
-use Rattle.records.specs.Records.{pairIn, rectIn, optionsIn, stepRecord, widgetRecord, singleRecord, recordOf, rest}
-use Rattle.records.specs.Headings.{hasGrid, noOptions, headingIn}
+use Rattle.records.specs.declared.SizeUnit.{SizeUnit}
+use Rattle.records.specs.declared.SizeUnit.the-variants.{Steps}
+use Rattle.records.specs.Units.{inSteps}
+use Rattle.records.proofs.Hundredths.{in-steps-few}
+use Rattle.records.specs.Parts.{letter, ends, points, lengthIn, measured, sizeIn, isLength, lengthValue}
+use Rattle.records.specs.Records.{pairIn, rectIn, optionsIn, stepRecord, widgetRecord, singleRecord, recordOf}
+use Rattle.records.specs.Headings.{gridAt, hasGrid, noOptions, headingIn}
 use Rattle.records.specs.Sheets.{recordsFrom, stepsLeft}
 use Rattle.records.specs.declared.Step.{Step}
 use Rattle.records.specs.declared.Step.the-variants.{Widget, Space, RowHeight, MaxWidth, MaxHeight, MinWidth, MinHeight, RowEnd}
@@ -29,16 +33,20 @@ points-edge : (z : ℤ) → natAbs z ≤ 2097152 → Edge 5 (points z)
 unfolding points
 points-edge z h = record { steps = z; few = h; is = refl }
 
--- ---- a length of a record
-value-edge : (f : Field) → ((z : ℤ) → f ≡ field.Number z → natAbs z ≤ 2097152) → Edge 5 (lengthValue (inPoints f))
-unfolding inPoints lengthValue
-value-edge field.Blank h = zero-edge 5
-value-edge (field.Number z) h = points-edge z (h z refl)
-value-edge field.Wrong h = zero-edge 5
+-- ---- a length of a record, in either unit
+measured-edge : (u : SizeUnit) (f : Field) → ((z : ℤ) → f ≡ field.Number z → natAbs z ≤ 2097152) → Edge 5 (lengthValue (measured u f))
+unfolding measured lengthValue
+measured-edge u field.Blank h = zero-edge 5
+measured-edge u (field.Number z) h = points-edge (inSteps 5 u z) (in-steps-few u z (h z refl))
+measured-edge u field.Wrong h = zero-edge 5
+
+size-edge : (u : SizeUnit) (s : List ℕ) (i : ℕ) → Edge 5 (lengthValue (sizeIn u s i))
+unfolding sizeIn
+size-edge u s i = measured-edge u (fieldAt 2097152 s (1 + 8 * i)) (λ z e. at-is-text 2097152 s (1 + 8 * i) z e .1)
 
 pub length-edge : (s : List ℕ) (i : ℕ) → Edge 5 (lengthValue (lengthIn s i))
 unfolding lengthIn
-length-edge s i = value-edge (fieldAt 2097152 s (1 + 8 * i)) (λ z e. at-is-text 2097152 s (1 + 8 * i) z e .1)
+length-edge s i = size-edge Steps s i
 
 pair-whole : (s : List ℕ) (i : ℕ) → WholeSize 5 (pairIn s i)
 unfolding pairIn
@@ -65,9 +73,9 @@ step-whole : (s : List ℕ) (n : ℕ) (b : Bool) (st : Step) → WholeSteps 5 (s
 unfolding stepRecord
 step-whole s n b st w = either (b && ends s n) (step w) wrong
 
-widget-whole : (s : List ℕ) → WholeRecord (widgetRecord s)
+widget-whole : (u : SizeUnit) (s : List ℕ) → WholeRecord (widgetRecord u s)
 unfolding widgetRecord
-widget-whole s = step-whole s 2 (isLength (lengthIn s 0) && isLength (lengthIn s 1)) (Widget (lengthValue (lengthIn s 0)) (lengthValue (lengthIn s 1))) (WholeSteps.control (length-edge s 0) (length-edge s 1) WholeSteps.none)
+widget-whole u s = step-whole s 2 (isLength (sizeIn u s 0) && isLength (sizeIn u s 1)) (Widget (lengthValue (sizeIn u s 0)) (lengthValue (sizeIn u s 1))) (WholeSteps.control (size-edge u s 0) (size-edge u s 1) WholeSteps.none)
 
 single-whole : (s : List ℕ) (b : ℕ) → WholeRecord (singleRecord s b)
 unfolding singleRecord
@@ -82,21 +90,21 @@ single-whole s b =
     (either (eqb b 78) (step-whole s 1 f (MinWidth x) (WholeSteps.minWidth e WholeSteps.none))
     (either (eqb b 84) (step-whole s 1 f (MinHeight x) (WholeSteps.minHeight e WholeSteps.none)) wrong)))))
 
-pub record-whole : (s : List ℕ) → WholeRecord (recordOf s)
+pub record-whole : (u : SizeUnit) (s : List ℕ) → WholeRecord (recordOf u s)
 unfolding recordOf
-record-whole s =
-    either (eqb (letter s) 87) (widget-whole s) (either (eqb (letter s) 69) (step-whole s 0 true RowEnd (WholeSteps.rowEnd WholeSteps.none)) (single-whole s (letter s)))
+record-whole u s =
+    either (eqb (letter s) 87) (widget-whole u s) (either (eqb (letter s) 69) (step-whole s 0 true RowEnd (WholeSteps.rowEnd WholeSteps.none)) (single-whole s (letter s)))
 
 -- ---- a sheet
 data AllWhole : List Record → Type 0 where
   none : AllWhole []
   more : {r : Record} {rs : List Record} → WholeRecord r → AllWhole rs → AllWhole (r ∷ rs)
 
-records-whole : (left : ℕ) (s : List ℕ) → AllWhole (recordsFrom left s)
+records-whole : (u : SizeUnit) (left : ℕ) (s : List ℕ) → AllWhole (recordsFrom u left s)
 unfolding recordsFrom
-records-whole zero s = none
-records-whole (suc left) [] = none
-records-whole (suc left) (b ∷ s) = more (record-whole (b ∷ s)) (records-whole left _)
+records-whole u zero s = none
+records-whole u (suc left) [] = none
+records-whole u (suc left) (b ∷ s) = more (record-whole u (b ∷ s)) (records-whole u left _)
 
 after-step : {st : Step} {rest : List Step} → WholeSteps 5 (st ∷ []) → WholeSteps 5 rest → WholeSteps 5 (st ∷ rest)
 after-step (WholeSteps.control a b t) r = WholeSteps.control a b r
@@ -121,10 +129,10 @@ smallest-whole : (s : List ℕ) → WholeSize 5 (headingIn s .options .«min_cel
 unfolding headingIn
 smallest-whole s = go (hasGrid s)
   where
-    go : (b : Bool) → WholeSize 5 (cond b (optionsIn (rest s)) noOptions .«min_cell_size»)
-    go true = options-whole (rest s)
+    go : (b : Bool) → WholeSize 5 (cond b (optionsIn (drop (gridAt s) s)) noOptions .«min_cell_size»)
+    go true = options-whole (drop (gridAt s) s)
     go false = zero-size
 
 pub text-whole : (text : List ℕ) → WholeSheet 5 (sheetIn text)
 unfolding headingIn
-text-whole text = record { rect = rect-whole text; spacing = pair-whole text 10; smallest = smallest-whole text; steps = steps-whole (records-whole (stepsLeft text) (drop (headingIn text .next) text)) }
+text-whole text = record { rect = rect-whole text; spacing = pair-whole text 10; smallest = smallest-whole text; steps = steps-whole (records-whole (headingIn text .unit) (stepsLeft text) (drop (headingIn text .next) text)) }

@@ -171,7 +171,7 @@ module _ (text : List ℕ) (m : Memory) where
 
 -- ---- an accepted call is over a text that is not turned back
 module _ (text : List ℕ) (known : Bool) (m : Memory) (sizing : Bool) (out : List ℤ) (p : Passed) (exit : List ℤ) (c : Called text known m sizing out p exit) where
-  not-turned-back : p .laid ≡ Accepted → (r : ℕ) × (w : ℕ) × (checked text (length out) ≡ checked-of.Accepted r w)
+  pub not-turned-back : p .laid ≡ Accepted → (r : ℕ) × (w : ℕ) × (checked text (length out) ≡ checked-of.Accepted r w)
   unfolding laid afterCheck
   not-turned-back a = go (checked text (length out)) refl (no-number _ _ (ap (λ (x : Passed). x .laid) (sym (c .answer)) ∙ a))
     where

@@ -4,4 +4,5 @@ mod OfStrips
 mod OfGrids
 pub mod PriceClause
 pub mod CallClause
+pub mod UnitClause
 mod OfCases

@@ -2,3 +2,4 @@
 mod StripPlaces
 mod StripSteps
 pub mod Strips
+pub mod StripWidths

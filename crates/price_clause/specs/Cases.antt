@@ -1,4 +1,4 @@
--- RULES 9.1 to 9.7, 9.10: the cases that are proved, one table of what a text is answered with and what it has to be.
+-- RULES 9.1 to 9.7, 9.10, 9.11: the cases that are proved, one table of what a text is answered with and what it has to be.
 use Prim.Native.Nat.{ℕ, zero, suc, _*_}
 use mathlib.Core.Bool.{Bool, true, false, _&&_}
 use lib.Dec.{eqb}
@@ -11,7 +11,7 @@ use Rattle.emath.specs.Rectangles.{roundUi, alignOn}
 use Rattle.emath.specs.Steps.{tick, val}
 use Rattle.emath.specs.declared.Align.the-variants.{Center}
 use Rattle.grid.specs.Memories.{widths, heights}
-use Rattle.records.specs.Writers.{H, G, W, N, E}
+use Rattle.records.specs.Writers.{H, M, G, W, S, N, E}
 use Rattle.records.specs.Sheets.{records, widgets}
 use Rattle.sheet.specs.Slices.{LaidOut, edges}
 use Rattle.sheet.specs.Ticks.{Ticks, ticks, inTicks}
@@ -227,6 +227,45 @@ min-rect-beyond = record {
   expected = refused number.outside 2;
 }
 
+-- RULES 9.11: hundredths of a millimetre in the W, and ticks everywhere else
+abbrev pub roomy : List ℕ
+roomy = in-room (pos 0) (edges (box (pos 0) (pos 0) (pos 640) (pos 640))) no-spacing
+
+abbrev pub metric-grid : Case
+metric-grid = record {
+  found = answer-to (roomy ++ (M ++ (grid (pos 635) (pos 635) ++ W (pos 635) (pos 1270))));
+  expected = pos 0 ∷ pos 0 ∷ (edges (box (pos 0) (pos 0) (pos 635) (pos 1152)) ++ (edges (box (pos 0) (pos 0) (pos 635) (pos 1152)) ++ (edges (box (pos 0) (pos 0) (pos 576) (pos 1152)) ++ (pos 1 ∷ pos 635 ∷ pos 1 ∷ pos 1152 ∷ []))));
+}
+
+abbrev pub metric-space : Case
+metric-space = record {
+  found = answer-to (roomy ++ (M ++ (S (pos 635) ++ W (pos 635) (pos 635))));
+  expected = without-grid (box (pos 635) (pos 0) (pos 1211) (pos 576) ∷ []) (box (pos 635) (pos 0) (pos 1211) (pos 576));
+}
+
+-- RULES 9.11: the largest field, and one more; the smallest below zero, whose sign stays
+abbrev pub metric-largest : Case
+metric-largest = record {
+  found = answer-to (roomy ++ (M ++ W (pos 2097152) (pos 1)));
+  expected = without-grid (box (pos 0) (pos 0) (pos 1902299) (pos 1) ∷ []) (box (pos 0) (pos 0) (pos 1902299) (pos 1));
+}
+
+abbrev pub metric-beyond : Case
+metric-beyond = record { found = refusal-of (roomy ++ (M ++ W (pos 2097153) (pos 1))); expected = refused number.malformed 3 }
+
+abbrev pub metric-negative : Case
+metric-negative = record { found = refusal-of (roomy ++ (M ++ W (negsuc 0) (pos 0))); expected = refused number.negative 3 }
+
+-- RULES 9.11: M is once, and right after H
+abbrev pub unit-twice : Case
+unit-twice = record { found = refusal-of (roomy ++ (M ++ M)); expected = refused number.malformed 3 }
+
+abbrev pub unit-after-grid : Case
+unit-after-grid = record { found = refusal-of (roomy ++ (grid (pos 0) (pos 0) ++ M)); expected = refused number.malformed 3 }
+
+abbrev pub grid-after-control : Case
+grid-after-control = record { found = refusal-of (roomy ++ (M ++ (W (pos 1) (pos 1) ++ grid (pos 0) (pos 0)))); expected = refused number.malformed 4 }
+
 -- RULES 9.1: every entry of a table; and the entries
 unfoldable pub allHold : List Case → Bool
 allHold [] = true
@@ -235,4 +274,5 @@ allHold (c ∷ rest) = sameAll (c .found) (c .expected) && allHold rest
 abbrev pub table : List Case
 table =
     the-strip ∷ the-strip-written ∷ the-strip-printed ∷ the-grid ∷ one-tick-centred ∷ half-a-tick ∷ minus-half-a-tick ∷ twice ∷ one-more ∷ at-the-limit ∷ beyond-the-limit ∷ grid-from-the-right
-    ∷ one-cell-too-many ∷ wider-than-controls ∷ centred-grid ∷ frame-of-no-size ∷ plate-elsewhere ∷ no-control ∷ min-rect-beyond ∷ []
+    ∷ one-cell-too-many ∷ wider-than-controls ∷ centred-grid ∷ frame-of-no-size ∷ plate-elsewhere ∷ no-control ∷ min-rect-beyond ∷ metric-grid ∷ metric-space
+    ∷ metric-largest ∷ metric-beyond ∷ metric-negative ∷ unit-twice ∷ unit-after-grid ∷ grid-after-control ∷ []

@@ -5,6 +5,7 @@ use probe_values::rects::number_of_align;
 use records::Checked;
 use records::Heading;
 use records::Record;
+use records::SizeUnit;
 use records::Step;
 use records::headings::heading_fault;
 use records::headings::read_heading;
@@ -39,7 +40,7 @@ pub extern "C" fn line_write(out: &mut [u8], at: usize, letter: u8, numbers: &[i
 }
 
 // Its layout's six fields, then max_rect's edges and the spacings.
-fn put_heading(lengths: &mut [f32; 10], counts: &mut [usize; 11], h: Heading) {
+fn put_heading(lengths: &mut [f32; 10], counts: &mut [usize; 12], h: Heading) {
     let l = h.layout;
     let main_dir = l.main_dir;
     let main_align = l.main_align;
@@ -60,7 +61,7 @@ fn put_heading(lengths: &mut [f32; 10], counts: &mut [usize; 11], h: Heading) {
 
 // Whether there is a grid, the minimum and the maximum cell, the columns, 0 for not named, and the start row; then how many records the heading
 // is, and where the next one begins.
-fn put_rest(lengths: &mut [f32; 10], counts: &mut [usize; 11], h: Heading) {
+fn put_rest(lengths: &mut [f32; 10], counts: &mut [usize; 12], h: Heading) {
     let g = h.options;
     lengths[6] = g.min_cell_size.x;
     lengths[7] = g.min_cell_size.y;
@@ -73,18 +74,36 @@ fn put_rest(lengths: &mut [f32; 10], counts: &mut [usize; 11], h: Heading) {
     counts[10] = h.next;
 }
 
+// 0 steps, 1 hundredths of a millimetre.
+fn number_of_unit(unit: SizeUnit) -> usize {
+    match unit {
+        SizeUnit::Steps => 0,
+        SizeUnit::Hundredths => 1,
+    }
+}
+
+fn unit_of(hundredths: bool) -> SizeUnit {
+    if hundredths {
+        SizeUnit::Hundredths
+    } else {
+        SizeUnit::Steps
+    }
+}
+
 // The first record of the heading that is not as it should be; where there is none, 0, and what the heading says.
 #[no_mangle]
 pub extern "C" fn heading_read(
     text: &[u8],
     lengths: &mut [f32; 10],
-    counts: &mut [usize; 11],
+    counts: &mut [usize; 12],
 ) -> usize {
     let fault = heading_fault(text);
     if fault == 0 {
         let h = read_heading(text);
         put_heading(lengths, counts, h);
         put_rest(lengths, counts, h);
+        let unit = h.unit;
+        counts[11] = number_of_unit(unit);
     }
     fault
 }
@@ -111,10 +130,15 @@ fn put_step(lengths: &mut [f32; 2], st: Step) -> u8 {
     }
 }
 
-// 0 no step, 1 to 8 the steps; places that it does not name keep what they hold.
+// Under a heading with M or without: 0 no step, 1 to 8 the steps; places that it does not name keep what they hold.
 #[no_mangle]
-pub extern "C" fn record_read(text: &[u8], at: usize, lengths: &mut [f32; 2]) -> u8 {
-    match read_record(text, at) {
+pub extern "C" fn record_read(
+    text: &[u8],
+    hundredths: bool,
+    at: usize,
+    lengths: &mut [f32; 2],
+) -> u8 {
+    match read_record(text, unit_of(hundredths), at) {
         Record::Step(st) => put_step(lengths, st),
         Record::Wrong => 0,
     }

@@ -19,7 +19,8 @@ use Rattle.text.proofs.RoundTrip.{at-is-text}
 use Rattle.text.specs.Fields.{fieldAt}
 use Rattle.text.specs.declared.Field.{Field}
 use Rattle.text.specs.declared.Field.the-variants.{Number}
-use Rattle.records.specs.Parts.{points, inPoints, lengthIn, natural}
+use Rattle.records.specs.declared.SizeUnit.{SizeUnit}
+use Rattle.records.specs.Parts.{points, measured, sizeIn, natural}
 
 small : (z : ℤ) → natAbs z ≤ 2097152 → Small z
 small z h = within-natAbs z (omega arith)
@@ -41,14 +42,14 @@ pub back-in-ticks : (z : ℤ) → natAbs z ≤ 2097152 → T (inSigned binary32 
 unfolding points
 back-in-ticks z h = points-to-steps tick (omega arith) z (small z h)
 
--- ---- what length answers
+-- ---- what size answers
 module _ (s : List ℕ) (i : ℕ) (f : Field) (e : f ≡ fieldAt 2097152 s (1 + 8 * i)) where
   pub few-ticks : (z : ℤ) → f ≡ Number z → natAbs z ≤ 2097152
   few-ticks z n = at-is-text 2097152 s (1 + 8 * i) z (sym e ∙ n) .1
 
-  pub length-is : (g : Field) → f ≡ g → inPoints g ≡ lengthIn s i
-  unfolding lengthIn
-  length-is g h = ap (λ (x : Field). inPoints x) (sym h ∙ e)
+  pub size-is : (u : SizeUnit) (g : Field) → f ≡ g → measured u g ≡ sizeIn u s i
+  unfolding sizeIn
+  size-is u g h = ap (λ (x : Field). measured u x) (sym h ∙ e)
 
 -- ---- what natural answers
 pub not-natural : (z : ℤ) → ltZ z (pos 0) ≡ true → 0 ≡ natural z

@@ -2,7 +2,10 @@
 mod Lengths
 pub mod Places
 mod HeadingFaults
+pub mod Hundredths
+mod HundredthTicks
 pub mod Reached
 pub mod Prefixes
 pub mod Checks
 pub mod SizeCache
+pub mod Controls

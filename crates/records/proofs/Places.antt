@@ -13,16 +13,20 @@ use Rattle.records.specs.Parts.{letter}
 use Rattle.records.specs.declared.Record.{Record}
 use Rattle.records.specs.declared.Record.the-variants.{Wrong}
 use Rattle.records.specs.Records.{recordOf, recordAt, singleRecord, fieldCount, size, rest, nextAt}
-use Rattle.records.specs.Headings.{hasGrid, headingIn}
+use Rattle.records.specs.declared.SizeUnit.{SizeUnit}
+use Rattle.records.specs.Headings.{stands, past, unitAt, gridAt, headingIn}
 
 -- ---- read_record
-pub beyond : (s : List ℕ) (at : ℕ) → length s < at → Wrong ≡ recordAt s at
-unfolding recordAt recordOf singleRecord
-beyond s at h = let l : length s ≤ at = omega arith in let e : drop at s ≡ [] = drop-of-length-le s l in rw e
+pub part-drop : (s : List ℕ) (at : ℕ) → take (length s - at) (drop at s) ≡ drop at s
+part-drop s at = take-all (length s - at) (drop at s) (omega (arith, length-drop at s))
 
-pub there : (s : List ℕ) (at : ℕ) (r : Record) → r ≡ recordOf (take (length s - at) (drop at s)) → r ≡ recordAt s at
+pub beyond : (u : SizeUnit) (s : List ℕ) (at : ℕ) → length s < at → Wrong ≡ recordAt u s at
+unfolding recordAt recordOf singleRecord
+beyond u s at h = let l : length s ≤ at = omega arith in let e : drop at s ≡ [] = drop-of-length-le s l in rw e
+
+pub there : (u : SizeUnit) (s : List ℕ) (at : ℕ) (r : Record) → r ≡ recordOf u (take (length s - at) (drop at s)) → r ≡ recordAt u s at
 unfolding recordAt
-there s at r e = e ∙ ap (λ (t : List ℕ). recordOf t) (take-all (length s - at) (drop at s) (omega (arith, length-drop at s)))
+there u s at r e = e ∙ ap (λ (t : List ℕ). recordOf u t) (part-drop s at)
 
 -- ---- next_record
 pub letter-at : (s : List ℕ) (at : ℕ) → letter (drop at s) ≡ getD s at 0
@@ -59,17 +63,24 @@ unfolding nextAt
 next-within s at = min-le-right _ _
 
 -- ---- what comes before the steps
-pub grid-there : (s : List ℕ) (at b : ℕ) → at ≡ nextAt s 0 → b ≡ getD s at 0 → eqb b letters.G ≡ hasGrid s
-unfolding hasGrid
-grid-there s at b ea eb = ap (λ (x : ℕ). eqb x letters.G) (eb ∙ ap (λ (n : ℕ). getD s n 0) ea ∙ sym (letter-at s (nextAt s 0)) ∙ ap letter (next-is-rest s 0))
+pub part-at : (s : List ℕ) (at m : ℕ) → at ≡ m → take (length s - at) (drop at s) ≡ drop m s
+part-at s at m e = part-drop s at ∙ ap (λ (n : ℕ). drop n s) e
 
-pub part-rest : (s : List ℕ) (at : ℕ) → at ≡ nextAt s 0 → take (length s - at) (drop at s) ≡ rest s
-part-rest s at e = take-all (length s - at) (drop at s) (omega (arith, length-drop at s)) ∙ ap (λ (n : ℕ). drop n s) e ∙ next-is-rest s 0
+pub stands-there : (b : ℕ) (s : List ℕ) (at c : ℕ) → c ≡ getD s at 0 → eqb c b ≡ stands b s at
+unfolding stands
+stands-there b s at c e = ap (λ (x : ℕ). eqb x b) (e ∙ sym (letter-at s at))
+
+pub past-within : (b : ℕ) (s : List ℕ) (at : ℕ) → at ≤ length s → past b s at ≤ length s
+unfolding past
+past-within b s at h = go (stands b s at)
+  where
+    go : (there : Bool) → cond there (nextAt s at) at ≤ length s
+    go true = next-within s at
+    go false = h
+
+pub grid-within : (s : List ℕ) → gridAt s ≤ length s
+grid-within s = past-within letters.M s (unitAt s) (next-within s 0)
 
 pub heading-within : (s : List ℕ) → headingIn s .next ≤ length s
 unfolding headingIn
-heading-within s = go (hasGrid s)
-  where
-    go : (b : Bool) → cond b (nextAt s (nextAt s 0)) (nextAt s 0) ≤ length s
-    go true = next-within s (nextAt s 0)
-    go false = next-within s 0
+heading-within s = past-within letters.G s (gridAt s) (grid-within s)

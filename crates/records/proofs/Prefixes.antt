@@ -12,9 +12,12 @@ use lib.ListN.{length, take, drop, length-take, length-drop}
 use lib.Seq.{getD-take, take-take, take-nil, length-take-le}
 use Rattle.emath.specs.Numbers as number
 use Rattle.text.specs.Fields.{fieldAt}
-use Rattle.records.specs.Parts.{letter, ends, lengthIn, countIn}
+use Rattle.text.specs.Letters as letters
+use Rattle.records.specs.declared.SizeUnit.{SizeUnit}
+use Rattle.records.specs.declared.SizeUnit.the-variants.{Steps}
+use Rattle.records.specs.Parts.{letter, ends, lengthIn, sizeIn, countIn}
 use Rattle.records.specs.Records.{pairFits, pairIn, layoutFits, layoutIn, rectIn, headingFits, maximaFit, maximaIn, optionsIn, gridFits, stepRecord, widgetRecord, singleRecord, recordOf, fieldCount, size, rest, nextAt}
-use Rattle.records.specs.Headings.{hasGrid, headingIn, headingFault}
+use Rattle.records.specs.Headings.{stands, one, past, unitAt, gridAt, stepsAt, hasUnit, unitIn, hasGrid, headingIn, unitFits, optionsFit, headingFault}
 use Rattle.records.specs.Sheets.{recordsFrom, stepsLeft, records, after, afterAll, misplaced, sheetFault, checked}
 use Rattle.records.specs.declared.Step.{Step}
 use Rattle.records.specs.declared.Record.{Record}
@@ -51,9 +54,13 @@ module _ (m : ℕ) (h : 98 ≤ m) (s : List ℕ) where
   unfolding ends
   same-ends n l = rw (getD-take m s (1 + 8 * n) 0 (omega arith))
 
+  same-size : (u : SizeUnit) (i : ℕ) → i ≤ 11 → sizeIn u t i ≡ sizeIn u s i
+  unfolding sizeIn
+  same-size u i l = rw (same-field m s 2097152 (1 + 8 * i) (omega arith))
+
   same-length : (i : ℕ) → i ≤ 11 → lengthIn t i ≡ lengthIn s i
   unfolding lengthIn
-  same-length i l = rw (same-field m s 2097152 (1 + 8 * i) (omega arith))
+  same-length i l = same-size Steps i l
 
   same-count : (i most : ℕ) → i ≤ 11 → countIn t i most ≡ countIn s i most
   unfolding countIn
@@ -99,17 +106,17 @@ module _ (m : ℕ) (h : 98 ≤ m) (s : List ℕ) where
   unfolding stepRecord
   same-step n l fits step = rw (same-ends n l)
 
-  same-widget : widgetRecord t ≡ widgetRecord s
+  same-widget : (u : SizeUnit) → widgetRecord u t ≡ widgetRecord u s
   unfolding widgetRecord stepRecord
-  same-widget = rw (same-length 0 (omega arith), same-length 1 (omega arith), same-ends 2 (omega arith))
+  same-widget u = rw (same-size u 0 (omega arith), same-size u 1 (omega arith), same-ends 2 (omega arith))
 
   same-single : (b : ℕ) → singleRecord t b ≡ singleRecord s b
   unfolding singleRecord stepRecord
   same-single b = rw (same-length 0 (omega arith), same-ends 1 (omega arith))
 
-  pub same-record : recordOf t ≡ recordOf s
+  pub same-record : (u : SizeUnit) → recordOf u t ≡ recordOf u s
   unfolding recordOf
-  same-record = rw (same-letter, same-widget, same-step 0 (omega arith), same-single (letter s))
+  same-record u = rw (same-letter, same-widget u, same-step 0 (omega arith), same-single (letter s))
 
 -- ---- a record has at most 98 bytes
 few-fields : (l : ℕ) → fieldCount l ≤ 12
@@ -132,16 +139,16 @@ pub small-size : (s : List ℕ) → size s ≤ 98
 small-size s = omega (arith, few-fields (letter s))
 
 -- ---- the records within the prefix
-pub same-records : (left m : ℕ) (s : List ℕ) → 98 * left ≤ m → recordsFrom left (take m s) ≡ recordsFrom left s
+pub same-records : (u : SizeUnit) (left m : ℕ) (s : List ℕ) → 98 * left ≤ m → recordsFrom u left (take m s) ≡ recordsFrom u left s
 unfolding recordsFrom
-same-records zero m s h = refl
-same-records (suc left) m [] h = ap (λ (l : List ℕ). recordsFrom (suc left) l) (take-nil m)
-same-records (suc left) zero (b ∷ s) h = absurd (omega arith)
-same-records (suc left) (suc m) (b ∷ s) h =
+same-records u zero m s h = refl
+same-records u (suc left) m [] h = ap (λ (l : List ℕ). recordsFrom u (suc left) l) (take-nil m)
+same-records u (suc left) zero (b ∷ s) h = absurd (omega arith)
+same-records u (suc left) (suc m) (b ∷ s) h =
     let z = small-size (b ∷ s) in
-    let r : recordOf (take (suc m) (b ∷ s)) ≡ recordOf (b ∷ s) = same-record (suc m) (omega arith) (b ∷ s) in
+    let r : recordOf u (take (suc m) (b ∷ s)) ≡ recordOf u (b ∷ s) = same-record (suc m) (omega arith) (b ∷ s) u in
     let d : rest (take (suc m) (b ∷ s)) ≡ take (suc m - size (b ∷ s)) (rest (b ∷ s)) = drop-take (size (b ∷ s)) (suc m) (b ∷ s) in
-    rw (r, d) (ap (λ (rs : List Record). recordOf (b ∷ s) ∷ rs) (same-records left (suc m - size (b ∷ s)) (rest (b ∷ s)) (omega (arith, z))))
+    rw (r, d) (ap (λ (rs : List Record). recordOf u (b ∷ s) ∷ rs) (same-records u left (suc m - size (b ∷ s)) (rest (b ∷ s)) (omega (arith, z))))
 
 -- and something is left after them
 left-after : (left : ℕ) (s : List ℕ) → 98 * left < length s → 0 < length (after left s)
@@ -150,72 +157,117 @@ left-after zero s h = omega arith
 left-after (suc left) s h = left-after left (rest s) (omega (arith, length-drop (size s) s, small-size s))
 
 -- ---- the heading within the prefix
-pub few-records : (s : List ℕ) → (1 ≤ headingIn s .records) × (headingIn s .records ≤ 2)
+pub few-records : (s : List ℕ) → (1 ≤ headingIn s .records) × (headingIn s .records ≤ 3)
 unfolding headingIn
-few-records s = go (hasGrid s)
+few-records s = go (hasUnit s) (hasGrid s)
   where
-    go : (b : Bool) → (1 ≤ cond b 2 1) × (cond b 2 1 ≤ 2)
-    go true = (omega arith, omega arith)
-    go false = (omega arith, omega arith)
+    go : (b c : Bool) → (1 ≤ 1 + one b + one c) × (1 + one b + one c ≤ 3)
+    go true true = (omega arith, omega arith)
+    go true false = (omega arith, omega arith)
+    go false true = (omega arith, omega arith)
+    go false false = (omega arith, omega arith)
+
+near : (s : List ℕ) (at : ℕ) → nextAt s at ≤ at + 98
+unfolding nextAt
+near s at = omega (arith, min-le-left (at + size (drop at s)) (length s), small-size (drop at s))
+
+past-near : (b : ℕ) (s : List ℕ) (at : ℕ) → past b s at ≤ at + 98 * one (stands b s at)
+unfolding past
+past-near b s at = go (stands b s at)
+  where
+    go : (there : Bool) → cond there (nextAt s at) at ≤ at + 98 * one there
+    go true = omega (arith, near s at)
+    go false = omega arith
+
+at-most-one : (b : Bool) → one b ≤ 1
+at-most-one true = omega arith
+at-most-one false = omega arith
 
 -- of a long text no record reaches its end
 next-is : (s : List ℕ) (at : ℕ) → at + 98 ≤ length s → nextAt s at ≡ at + size (drop at s)
 unfolding nextAt
 next-is s at h = min-eq-left (omega (arith, small-size (drop at s)))
 
-second-is : (s : List ℕ) → 98 ≤ length s → nextAt s 0 ≡ size s
-second-is s h = next-is s 0 (omega arith) ∙ zero-add (size s)
-
-module _ (m : ℕ) (s : List ℕ) (h : 300 ≤ m) (long : m ≤ length s) where
+module _ (m : ℕ) (s : List ℕ) (long : m ≤ length s) where
   abbrev t′ : List ℕ
   t′ = take m s
 
-  size-same : size t′ ≡ size s
-  size-same = ap (λ (l : ℕ). 2 + 8 * fieldCount l) (same-letter m (omega arith) s)
+  -- a record that begins 98 bytes before the prefix ends, or earlier
+  module _ (at : ℕ) (h : at + 98 ≤ m) where
+    drop-same : drop at t′ ≡ take (m - at) (drop at s)
+    drop-same = drop-take at m s
 
-  rest-same : rest t′ ≡ take (m - size s) (rest s)
-  rest-same = ap (λ (n : ℕ). drop n t′) size-same ∙ drop-take (size s) m s
+    letter-same : letter (drop at t′) ≡ letter (drop at s)
+    letter-same = ap letter drop-same ∙ same-letter (m - at) (omega arith) (drop at s)
 
-  grid-same : hasGrid t′ ≡ hasGrid s
-  unfolding hasGrid
-  grid-same = rw (rest-same, same-letter (m - size s) (omega (arith, small-size s)) (rest s))
+    stands-same : (b : ℕ) → stands b t′ at ≡ stands b s at
+    unfolding stands
+    stands-same b = ap (λ (l : ℕ). eqb l b) letter-same
 
-  options-same : optionsIn (rest t′) ≡ optionsIn (rest s)
-  options-same = ap optionsIn rest-same ∙ same-options (m - size s) (omega (arith, small-size s)) (rest s)
+    next-same : nextAt t′ at ≡ nextAt s at
+    next-same = next-is t′ at (omega (arith, length-take-le m s long)) ∙ ap (λ (l : ℕ). at + (2 + 8 * fieldCount l)) letter-same ∙ sym (next-is s at (omega arith))
 
-  grid-fits-same : gridFits (rest t′) ≡ gridFits (rest s)
-  grid-fits-same = ap gridFits rest-same ∙ same-grid-fits (m - size s) (omega (arith, small-size s)) (rest s)
+    past-same : (b : ℕ) → past b t′ at ≡ past b s at
+    unfolding past
+    past-same b = rw (stands-same b, next-same)
 
-  second-same : nextAt t′ 0 ≡ nextAt s 0
-  second-same = second-is t′ (omega (arith, length-take-le m s long)) ∙ size-same ∙ sym (second-is s (omega arith))
+    ends-same : (n : ℕ) → n ≤ 12 → ends (drop at t′) n ≡ ends (drop at s) n
+    ends-same n l = ap (λ (u : List ℕ). ends u n) drop-same ∙ same-ends (m - at) (omega arith) (drop at s) n l
 
-  third-same : nextAt t′ (nextAt t′ 0) ≡ nextAt s (nextAt s 0)
-  third-same =
-      let a : nextAt s 0 ≡ size s = second-is s (omega arith) in
-      let z = small-size s in
-      let d : size (drop (size s) t′) ≡ size (rest s) = ap size (sym (ap (λ (n : ℕ). drop n t′) size-same) ∙ rest-same) ∙ ap (λ (l : ℕ). 2 + 8 * fieldCount l) (same-letter (m - size s) (omega arith) (rest s)) in
-      ap (nextAt t′) (second-same ∙ a) ∙ next-is t′ (size s) (omega (arith, length-take-le m s long)) ∙ ap (λ (n : ℕ). size s + n) d ∙ sym (next-is s (size s) (omega arith)) ∙ ap (nextAt s) (sym a)
+    options-same : optionsIn (drop at t′) ≡ optionsIn (drop at s)
+    options-same = ap optionsIn drop-same ∙ same-options (m - at) (omega arith) (drop at s)
 
-  pub heading-same : headingIn t′ ≡ headingIn s
-  unfolding headingIn
-  heading-same = rw (same-layout m (omega arith) s, same-rect m (omega arith) s, same-pair m (omega arith) s 10 (omega arith), grid-same, options-same, third-same, second-same)
+    grid-fits-same : gridFits (drop at t′) ≡ gridFits (drop at s)
+    grid-fits-same = ap gridFits drop-same ∙ same-grid-fits (m - at) (omega arith) (drop at s)
 
-  fault-same : headingFault t′ ≡ headingFault s
-  unfolding headingFault
-  fault-same = rw (same-heading-fits m (omega arith) s, grid-same, grid-fits-same)
+  module _ (h : 300 ≤ m) where
+    unit-near : unitAt s + 98 ≤ m
+    unit-near = omega (arith, near s 0)
 
-near : (s : List ℕ) (at : ℕ) → nextAt s at ≤ at + 98
-unfolding nextAt
-near s at = omega (arith, min-le-left (at + size (drop at s)) (length s), small-size (drop at s))
+    grid-near : gridAt s + 98 ≤ m
+    grid-near = omega (arith, near s 0, past-near letters.M s (unitAt s), at-most-one (stands letters.M s (unitAt s)))
+
+    unit-at-same : unitAt t′ ≡ unitAt s
+    unit-at-same = next-same 0 (omega arith)
+
+    grid-at-same : gridAt t′ ≡ gridAt s
+    grid-at-same = ap (past letters.M t′) unit-at-same ∙ past-same (unitAt s) unit-near letters.M
+
+    steps-at-same : stepsAt t′ ≡ stepsAt s
+    steps-at-same = ap (past letters.G t′) grid-at-same ∙ past-same (gridAt s) grid-near letters.G
+
+    has-unit-same : hasUnit t′ ≡ hasUnit s
+    unfolding hasUnit
+    has-unit-same = ap (stands letters.M t′) unit-at-same ∙ stands-same (unitAt s) unit-near letters.M
+
+    unit-same : unitIn t′ ≡ unitIn s
+    unfolding unitIn
+    unit-same = rw has-unit-same
+
+    has-grid-same : hasGrid t′ ≡ hasGrid s
+    unfolding hasGrid
+    has-grid-same = ap (stands letters.G t′) grid-at-same ∙ stands-same (gridAt s) grid-near letters.G
+
+    pub heading-same : headingIn t′ ≡ headingIn s
+    unfolding headingIn
+    heading-same = rw (same-layout m (omega arith) s, same-rect m (omega arith) s, same-pair m (omega arith) s 10 (omega arith), unit-same, has-unit-same, has-grid-same, steps-at-same, grid-at-same, options-same (gridAt s) grid-near)
+
+    unit-fits-same : unitFits t′ ≡ unitFits s
+    unfolding unitFits
+    unit-fits-same = rw (has-unit-same, unit-at-same, ends-same (unitAt s) unit-near 0 (omega arith))
+
+    options-fit-same : optionsFit t′ ≡ optionsFit s
+    unfolding optionsFit
+    options-fit-same = rw (has-grid-same, grid-at-same, grid-fits-same (gridAt s) grid-near)
+
+    fault-same : headingFault t′ ≡ headingFault s
+    unfolding headingFault
+    fault-same = rw (same-heading-fits m (omega arith) s, unit-fits-same, options-fit-same, heading-same)
 
 -- the heading is no longer than its records may be
 next-few : (s : List ℕ) → headingIn s .next ≤ 98 * headingIn s .records
-unfolding headingIn
-next-few s = go (hasGrid s)
-  where
-    go : (b : Bool) → cond b (nextAt s (nextAt s 0)) (nextAt s 0) ≤ 98 * cond b 2 1
-    go true = omega (arith, near s 0, near s (nextAt s 0))
-    go false = omega (arith, near s 0)
+unfolding headingIn hasUnit hasGrid
+next-few s = omega (arith, near s 0, past-near letters.M s (unitAt s), past-near letters.G s (gridAt s))
 
 -- ---- refusals 1 to 3
 some : (s : List ℕ) (room : ℕ) → 50176 < length s → sheetFault s room ≡ cond (eqb (misplaced s) 0) (record { number = number.tooLong; at = 513 }) (record { number = number.malformed; at = misplaced s })
@@ -236,12 +288,12 @@ pub record Prefix (s : List ℕ) (room : ℕ) : Type 0 where
 pub long-text : (s : List ℕ) (room : ℕ) → 50177 ≤ length s → Prefix s room
 unfolding misplaced
 long-text s room h =
-    let g : headingIn (take 50177 s) ≡ headingIn s = heading-same 50177 s (omega arith) h in
+    let g : headingIn (take 50177 s) ≡ headingIn s = heading-same 50177 s h (omega arith) in
     let f = few-records s in
     let d : drop (headingIn s .next) (take 50177 s) ≡ take (50177 - headingIn s .next) (drop (headingIn s .next) s) = drop-take (headingIn s .next) 50177 s in
-    let r : records (take 50177 s) ≡ records s = rw (g, d) (same-records (stepsLeft s) (50177 - headingIn s .next) (drop (headingIn s .next) s) (omega (arith, next-few s))) in
+    let r : records (take 50177 s) ≡ records s = rw (g, d) (same-records (headingIn s .unit) (stepsLeft s) (50177 - headingIn s .next) (drop (headingIn s .next) s) (omega (arith, next-few s))) in
     let l : length (take 50177 s) ≡ 50177 = length-take-le 50177 s h in
-    let q : sheetFault (take 50177 s) room ≡ sheetFault s room = some (take 50177 s) room (omega (arith, l)) ∙ rw (fault-same 50177 s (omega arith) h, r, g) (sym (some s room (omega arith))) in
+    let q : sheetFault (take 50177 s) room ≡ sheetFault s room = some (take 50177 s) room (omega (arith, l)) ∙ rw (fault-same 50177 s h (omega arith), r, g) (sym (some s room (omega arith))) in
     record {
       check = same-check (take 50177 s) s room q g r;
       heading = g;

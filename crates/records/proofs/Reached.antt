@@ -15,6 +15,7 @@ use Rattle.emath.specs.Refusals.{orElse}
 use Rattle.records.specs.declared.Record.{Record}
 use Rattle.records.specs.declared.Record.the-variants.{Step as Steps, Wrong}
 use Rattle.records.specs.declared.Heading.{Heading}
+use Rattle.records.specs.declared.SizeUnit.{SizeUnit}
 use Rattle.records.specs.declared.Checked.{Checked}
 use Rattle.records.specs.declared.Checked.the-variants.{Accepted, Refused}
 use Rattle.records.specs.Records.{recordOf, recordAt, size, rest, nextAt}
@@ -25,9 +26,9 @@ use Rattle.records.proofs.Places.{next-is-rest}
 
 -- from `at` on: the first fault there is the sheet's first after its heading, and the W and records there, with those read, are all of them
 pub record Reached (s : List ℕ) (at k w left : ℕ) : Type 0 where
-  pub fault : wrongFrom (k + 1) (recordsFrom left (drop at s)) ≡ wrongFrom (headingIn s .records + 1) (records s)
-  pub all-widgets : w + widgets (recordsFrom left (drop at s)) ≡ widgets (records s)
-  pub all-records : k + length (recordsFrom left (drop at s)) ≡ headingIn s .records + length (records s)
+  pub fault : wrongFrom (k + 1) (recordsFrom (headingIn s .unit) left (drop at s)) ≡ wrongFrom (headingIn s .records + 1) (records s)
+  pub all-widgets : w + widgets (recordsFrom (headingIn s .unit) left (drop at s)) ≡ widgets (records s)
+  pub all-records : k + length (recordsFrom (headingIn s .unit) left (drop at s)) ≡ headingIn s .records + length (records s)
   pub tail : after left (drop at s) ≡ afterAll s
 
 pub start : (s : List ℕ) → Reached s (headingIn s .next) (headingIn s .records) 0 (stepsLeft s)
@@ -41,29 +42,29 @@ not-empty [] h = absurd (omega arith)
 not-empty (x ∷ l) h = refl
 
 -- ---- one record more
-first-of : (left : ℕ) (u : List ℕ) → 0 < left → 0 < length u → recordsFrom left u ≡ recordOf u ∷ recordsFrom (left - 1) (rest u)
+first-of : (m : SizeUnit) (left : ℕ) (u : List ℕ) → 0 < left → 0 < length u → recordsFrom m left u ≡ recordOf m u ∷ recordsFrom m (left - 1) (rest u)
 unfolding recordsFrom
-first-of zero u h l = absurd (omega arith)
-first-of (suc left) [] h l = absurd (omega arith)
-first-of (suc left) (b ∷ u) h l = let e : suc left - 1 ≡ left = omega arith in rw e
+first-of m zero u h l = absurd (omega arith)
+first-of m (suc left) [] h l = absurd (omega arith)
+first-of m (suc left) (b ∷ u) h l = let e : suc left - 1 ≡ left = omega arith in rw e
 
 after-first : (left : ℕ) (u : List ℕ) → 0 < left → after left u ≡ after (left - 1) (rest u)
 unfolding after
 after-first zero u h = absurd (omega arith)
 after-first (suc left) u h = let e : suc left - 1 ≡ left = omega arith in rw e
 
-pub records-few : (left : ℕ) (s : List ℕ) → length (recordsFrom left s) ≤ left
+pub records-few : (m : SizeUnit) (left : ℕ) (s : List ℕ) → length (recordsFrom m left s) ≤ left
 unfolding recordsFrom
-records-few zero s = omega arith
-records-few (suc left) [] = omega arith
-records-few (suc left) (b ∷ s) = omega (arith, records-few left (rest (b ∷ s)))
+records-few m zero s = omega arith
+records-few m (suc left) [] = omega arith
+records-few m (suc left) (b ∷ s) = omega (arith, records-few m left (rest (b ∷ s)))
 
 -- the records from a place on, taken one by one
-pub records-step : (left : ℕ) (s : List ℕ) (at : ℕ) → 0 < left → at < length s → recordsFrom left (drop at s) ≡ recordAt s at ∷ recordsFrom (left - 1) (drop (nextAt s at) s)
+pub records-step : (m : SizeUnit) (left : ℕ) (s : List ℕ) (at : ℕ) → 0 < left → at < length s → recordsFrom m left (drop at s) ≡ recordAt m s at ∷ recordsFrom m (left - 1) (drop (nextAt s at) s)
 unfolding recordAt
-records-step left s at more here =
+records-step m left s at more here =
     let l : 0 < length (drop at s) = omega (arith, length-drop at s) in
-    first-of left (drop at s) more l ∙ rw (next-is-rest s at)
+    first-of m left (drop at s) more l ∙ rw (next-is-rest s at)
 
 pub step-on : (k : ℕ) (r : Record) (rs : List Record) (m : ℕ) → isStep r ≡ true → wrongFrom k (r ∷ rs) ≡ m → wrongFrom (k + 1) rs ≡ m
 unfolding wrongFrom isStep
@@ -79,9 +80,9 @@ counted : (w n m : ℕ) (r : Record) (rs : List Record) → n ≡ widget r → w
 unfolding widgets
 counted w n m r rs e h = omega arith
 
-module _ (s : List ℕ) (at k w left : ℕ) (h : Reached s at k w left) (more : 0 < left) (here : at < length s) (r : Record) (er : r ≡ recordAt s at) where
-  first : recordsFrom left (drop at s) ≡ r ∷ recordsFrom (left - 1) (drop (nextAt s at) s)
-  first = records-step left s at more here ∙ rw er
+module _ (s : List ℕ) (at k w left : ℕ) (h : Reached s at k w left) (more : 0 < left) (here : at < length s) (r : Record) (er : r ≡ recordAt (headingIn s .unit) s at) where
+  first : recordsFrom (headingIn s .unit) left (drop at s) ≡ r ∷ recordsFrom (headingIn s .unit) (left - 1) (drop (nextAt s at) s)
+  first = records-step (headingIn s .unit) left s at more here ∙ rw er
 
   no-step : isStep r ≡ false → k + 1 ≡ wrongFrom (headingIn s .records + 1) (records s)
   no-step e = stops (k + 1) r _ _ e (ap (λ (rs : List Record). wrongFrom (k + 1) rs) (sym first) ∙ h .fault)
@@ -90,20 +91,20 @@ module _ (s : List ℕ) (at k w left : ℕ) (h : Reached s at k w left) (more : 
   next n e en = record {
     fault = step-on (k + 1) r _ _ e (ap (λ (rs : List Record). wrongFrom (k + 1) rs) (sym first) ∙ h .fault);
     all-widgets = counted w n _ r _ en (ap (λ (rs : List Record). w + widgets rs) (sym first) ∙ h .all-widgets);
-    all-records = let c : k + length (r ∷ recordsFrom (left - 1) (drop (nextAt s at) s)) ≡ headingIn s .records + length (records s) = ap (λ (rs : List Record). k + length rs) (sym first) ∙ h .all-records in omega arith;
+    all-records = let c : k + length (r ∷ recordsFrom (headingIn s .unit) (left - 1) (drop (nextAt s at) s)) ≡ headingIn s .records + length (records s) = ap (λ (rs : List Record). k + length rs) (sym first) ∙ h .all-records in omega arith;
     tail = rw (next-is-rest s at) (sym (after-first left (drop at s) more) ∙ h .tail);
   }
 
 -- ---- at the text's end, and after the last record that there is room for
-pub none-left : (left : ℕ) → recordsFrom left [] ≡ []
+pub none-left : (m : SizeUnit) (left : ℕ) → recordsFrom m left [] ≡ []
 unfolding recordsFrom
-none-left zero = refl
-none-left (suc left) = refl
+none-left m zero = refl
+none-left m (suc left) = refl
 
-pub no-more : (left : ℕ) (u : List ℕ) → left ≤ 0 → recordsFrom left u ≡ []
+pub no-more : (m : SizeUnit) (left : ℕ) (u : List ℕ) → left ≤ 0 → recordsFrom m left u ≡ []
 unfolding recordsFrom
-no-more zero u h = refl
-no-more (suc left) u h = absurd (omega arith)
+no-more m zero u h = refl
+no-more m (suc left) u h = absurd (omega arith)
 
 nothing-after : (left : ℕ) → after left [] ≡ []
 unfolding after
@@ -123,7 +124,7 @@ no-widgets : widgets [] ≡ 0
 unfolding widgets
 no-widgets = refl
 
-module _ (s : List ℕ) (at k w left : ℕ) (h : Reached s at k w left) (none : recordsFrom left (drop at s) ≡ []) where
+module _ (s : List ℕ) (at k w left : ℕ) (h : Reached s at k w left) (none : recordsFrom (headingIn s .unit) left (drop at s) ≡ []) where
   no-fault : 0 ≡ wrongFrom (headingIn s .records + 1) (records s)
   no-fault = sym (none-wrong (k + 1)) ∙ ap (λ (rs : List Record). wrongFrom (k + 1) rs) (sym none) ∙ h .fault
 
@@ -158,7 +159,7 @@ module _ (s : List ℕ) (room : ℕ) where
     answer b v em eb ev = rw (well, ← em, eb, ev) (by-tests (isEmpty (afterAll s)) (ltb room (8 * widgets (records s))) _ _)
 
     module _ (at k w left : ℕ) (h : Reached s at k w left) where
-      pub misplaced-answer : 0 < left → at < length s → (r : Record) → r ≡ recordAt s at → (p : Bool) → p ≡ isStep r → p ≡ false → Refused number.malformed (k + 1) ≡ checked s room
+      pub misplaced-answer : 0 < left → at < length s → (r : Record) → r ≡ recordAt (headingIn s .unit) s at → (p : Bool) → p ≡ isStep r → p ≡ false → Refused number.malformed (k + 1) ≡ checked s room
       misplaced-answer more here r er p ep e =
           at-fault (k + 1) (omega arith) (no-step s at k w left h more here r er (sym ep ∙ e))
 
@@ -166,12 +167,12 @@ module _ (s : List ℕ) (room : ℕ) where
       too-many full here =
           let t : isEmpty (drop at s) ≡ false = not-empty (drop at s) (omega (arith, length-drop at s)) in
           let a : drop at s ≡ afterAll s = sym (all-after left (drop at s) full) ∙ h .tail in
-          answer false _ (no-fault s at k w left h (no-more left (drop at s) full)) (sym t ∙ ap (λ (u : List ℕ). isEmpty u) a) refl
+          answer false _ (no-fault s at k w left h (no-more (headingIn s .unit) left (drop at s) full)) (sym t ∙ ap (λ (u : List ℕ). isEmpty u) a) refl
 
       pub ended-answer : length s ≤ at → (v : Checked) → v ≡ cond (ltb room (8 * w)) (Refused number.noRoom 1) (Accepted k w) → v ≡ checked s room
       ended-answer out v ev =
           let d : drop at s ≡ [] = drop-of-length-le s out in
-          let none : recordsFrom left (drop at s) ≡ [] = ap (λ (u : List ℕ). recordsFrom left u) d ∙ none-left left in
+          let none : recordsFrom (headingIn s .unit) left (drop at s) ≡ [] = ap (λ (u : List ℕ). recordsFrom (headingIn s .unit) left u) d ∙ none-left (headingIn s .unit) left in
           let a : afterAll s ≡ [] = sym (h .tail) ∙ ap (λ (u : List ℕ). after left u) d ∙ nothing-after left in
           let K = records-are s at k w left h none in
           let W = widgets-are s at k w left h none in

@@ -16,7 +16,8 @@ use Rattle.records.specs.declared.Step.the-variants.{Widget, Space, RowH
 use Rattle.records.specs.declared.Record.{Record}
 use Rattle.records.specs.declared.Record.the-variants.{Step as Steps, Wrong}
 use Rattle.records.specs.declared.Checked.the-variants.{Accepted}
-use Rattle.records.specs.Parts.{letter, ends, lengthIn, isLength, lengthValue}
+use Rattle.records.specs.declared.SizeUnit.{SizeUnit}
+use Rattle.records.specs.Parts.{letter, ends, sizeIn, isLength, lengthValue}
 use Rattle.records.specs.Records.{stepRecord, widgetRecord, recordOf, recordAt, size, rest, nextAt}
 use Rattle.text.specs.Letters as letters
 use Rattle.records.specs.Headings.{headingIn, headingFault}
@@ -63,9 +64,9 @@ step-below ss n m (MinHeight x) h l = (refl, refl)
 step-below ss n m RowEnd h l = (refl, refl)
 
 -- ---- its places then hold the size of a W
-is-widget : (u : List ℕ) → letter u ≡ letters.W → recordOf u ≡ widgetRecord u
+is-widget : (m : SizeUnit) (u : List ℕ) → letter u ≡ letters.W → recordOf m u ≡ widgetRecord m u
 unfolding recordOf
-is-widget u h = rw h
+is-widget m u h = rw h
 
 stands : (ss : List Float) (n : ℕ) (x y : Float) → 513 + n < length ss → Steps (Widget x y) ≡ Steps (Widget (getD (stored ss n (Steps (Widget x y))) n nan) (getD (stored ss n (Steps (Widget x y))) (513 + n) nan))
 unfolding stored storedStep
@@ -79,12 +80,12 @@ no-step : isStep Wrong ≡ true → ⊥
 unfolding isStep
 no-step h = let z : _≡_ {A = ℕ} 0 1 = cc in omega arith
 
-is-cached : (u : List ℕ) (ss : List Float) (n : ℕ) → isStep (recordOf u) ≡ true → 513 + n < length ss → IsCached u (stored ss n (recordOf u)) n
+is-cached : (m : SizeUnit) (u : List ℕ) (ss : List Float) (n : ℕ) → isStep (recordOf m u) ≡ true → 513 + n < length ss → IsCached m u (stored ss n (recordOf m u)) n
 unfolding widgetRecord stepRecord
-is-cached u ss n p l h = go (isLength (lengthIn u 0) && isLength (lengthIn u 1) && ends u 2) (lengthValue (lengthIn u 0)) (lengthValue (lengthIn u 1)) (is-widget u h)
+is-cached m u ss n p l h = go (isLength (sizeIn m u 0) && isLength (sizeIn m u 1) && ends u 2) (lengthValue (sizeIn m u 0)) (lengthValue (sizeIn m u 1)) (is-widget m u h)
   where
-    go : (b : Bool) (x y : Float) → recordOf u ≡ cond b (Steps (Widget x y)) Wrong
-        → recordOf u ≡ Steps (Widget (getD (stored ss n (recordOf u)) n nan) (getD (stored ss n (recordOf u)) (513 + n) nan))
+    go : (b : Bool) (x y : Float) → recordOf m u ≡ cond b (Steps (Widget x y)) Wrong
+        → recordOf m u ≡ Steps (Widget (getD (stored ss n (recordOf m u)) n nan) (getD (stored ss n (recordOf m u)) (513 + n) nan))
     go true x y e = rw e (stands ss n x y l)
     go false x y e = absurd (no-step (ap (λ (r : Record). isStep r) (sym e) ∙ p))
 
@@ -114,14 +115,14 @@ unfolding cachedFrom isStep
 cached-stops n (Steps st) rs ss e = absurd (true≢false e)
 cached-stops n Wrong rs ss e = refl
 
-same-cached : (u : List ℕ) (ss ts : List Float) (n : ℕ) → Same ts ss n → IsCached u ss n → IsCached u ts n
-same-cached u ss ts n e h w = h w ∙ rw (e .0, e .1)
+same-cached : (m : SizeUnit) (u : List ℕ) (ss ts : List Float) (n : ℕ) → Same ts ss n → IsCached m u ss n → IsCached m u ts n
+same-cached m u ss ts n e h w = h w ∙ rw (e .0, e .1)
 
 -- the rest leaves the places of the record at the front as they are
-stays-cached : (u : List ℕ) (rs : List Record) (ss : List Float) (n : ℕ) → isStep (recordOf u) ≡ true → n + 1 + length rs ≤ 513 → 513 + n < length ss → IsCached u (cachedFrom (n + 1) rs (stored ss n (recordOf u))) n
-stays-cached u rs ss n e few l =
-    let mid = stored ss n (recordOf u) in
-    same-cached u mid (cachedFrom (n + 1) rs mid) n (cached-below rs mid (n + 1) n (omega arith) few) (is-cached u ss n e l)
+stays-cached : (m : SizeUnit) (u : List ℕ) (rs : List Record) (ss : List Float) (n : ℕ) → isStep (recordOf m u) ≡ true → n + 1 + length rs ≤ 513 → 513 + n < length ss → IsCached m u (cachedFrom (n + 1) rs (stored ss n (recordOf m u))) n
+stays-cached m u rs ss n e few l =
+    let mid = stored ss n (recordOf m u) in
+    same-cached m u mid (cachedFrom (n + 1) rs mid) n (cached-below rs mid (n + 1) n (omega arith) few) (is-cached m u ss n e l)
 
 first-step : (n : ℕ) (r : Record) (rs : List Record) → 0 < n → wrongFrom n (r ∷ rs) ≡ 0 → isStep r ≡ true
 first-step n r rs N m = go (isStep r) refl
@@ -130,17 +131,17 @@ first-step n r rs N m = go (isStep r) refl
     go true e = e
     go false e = absurd (omega (arith, stops n r rs 0 e m))
 
-all-cached : (left : ℕ) (s : List ℕ) (ss : List Float) (n : ℕ) → 0 < n → wrongFrom n (recordsFrom left s) ≡ 0 → n + left ≤ 513 → length ss ≡ 1026 → AreCached left s (cachedFrom n (recordsFrom left s) ss) n
+all-cached : (m : SizeUnit) (left : ℕ) (s : List ℕ) (ss : List Float) (n : ℕ) → 0 < n → wrongFrom n (recordsFrom m left s) ≡ 0 → n + left ≤ 513 → length ss ≡ 1026 → AreCached m left s (cachedFrom n (recordsFrom m left s) ss) n
 unfolding AreCached recordsFrom
-all-cached zero s ss n N m few l = tt
-all-cached (suc left) [] ss n N m few l = tt
-all-cached (suc left) (b ∷ s) ss n N m few l =
-    let r = recordOf (b ∷ s) in
-    let rs = recordsFrom left (rest (b ∷ s)) in
-    let e : isStep r ≡ true = first-step n r rs N m in
+all-cached m zero s ss n N w few l = tt
+all-cached m (suc left) [] ss n N w few l = tt
+all-cached m (suc left) (b ∷ s) ss n N w few l =
+    let r = recordOf m (b ∷ s) in
+    let rs = recordsFrom m left (rest (b ∷ s)) in
+    let e : isStep r ≡ true = first-step n r rs N w in
     rw (cached-step n r rs ss e) (
-      stays-cached (b ∷ s) rs ss n e (omega (arith, records-few left (rest (b ∷ s)))) (omega arith),
-      all-cached left (rest (b ∷ s)) (stored ss n r) (n + 1) (omega arith) (step-on n r rs 0 e m) (omega arith) (stored-length ss n r ∙ l),
+      stays-cached m (b ∷ s) rs ss n e (omega (arith, records-few m left (rest (b ∷ s)))) (omega arith),
+      all-cached m left (rest (b ∷ s)) (stored ss n r) (n + 1) (omega arith) (step-on n r rs 0 e w) (omega arith) (stored-length ss n r ∙ l),
     )
 
 -- of an accepted text the check leaves the size of every W in its places
@@ -149,7 +150,7 @@ unfolding cachedBy
 cached-in s room k w ss l e =
     let c = clear s room k w e in
     let few = few-records s in
-    rw (c .heading) (all-cached (stepsLeft s) (drop (headingIn s .next) s) ss (headingIn s .records + 1) (omega arith) (c .steps) (omega (arith, few)) l)
+    rw (c .heading) (all-cached (headingIn s .unit) (stepsLeft s) (drop (headingIn s .next) s) ss (headingIn s .records + 1) (omega arith) (c .steps) (omega (arith, few)) l)
 
 pub cached-by-length : (s : List ℕ) (ss : List Float) → length (cachedBy s ss) ≡ length ss
 unfolding cachedBy
@@ -164,7 +165,7 @@ pub not-cached : (s : List ℕ) (ss : List Float) (f : ℕ) → f ≡ headingFau
 unfolding cachedBy
 not-cached s ss f e h = rw (← e, ne-eqb f 0 h)
 
-pub cached-start : (s : List ℕ) (ss : List Float) (h : HeadingOf) → headingFault s ≡ 0 → h ≡ headingIn s → cachedFrom (h .records + 1) (recordsFrom (512 - h .records) (drop (h .next) s)) ss ≡ cachedBy s ss
+pub cached-start : (s : List ℕ) (ss : List Float) (h : HeadingOf) → headingFault s ≡ 0 → h ≡ headingIn s → cachedFrom (h .records + 1) (recordsFrom (headingIn s .unit) (512 - h .records) (drop (h .next) s)) ss ≡ cachedBy s ss
 unfolding cachedBy
 cached-start s ss h f e = rw (e, f)
 
@@ -172,43 +173,43 @@ no-records : (n : ℕ) (rs : List Record) (ss : List Float) → rs ≡ [] → ca
 unfolding cachedFrom
 no-records n rs ss e = rw e
 
-pub cached-full : (u : List ℕ) (ss : List Float) (n left : ℕ) (all : List Float) → cachedFrom n (recordsFrom left u) ss ≡ all → left ≤ 0 → ss ≡ all
-cached-full u ss n left all inv full = sym (no-records n (recordsFrom left u) ss (no-more left u full)) ∙ inv
+pub cached-full : (m : SizeUnit) (u : List ℕ) (ss : List Float) (n left : ℕ) (all : List Float) → cachedFrom n (recordsFrom m left u) ss ≡ all → left ≤ 0 → ss ≡ all
+cached-full m u ss n left all inv full = sym (no-records n (recordsFrom m left u) ss (no-more m left u full)) ∙ inv
 
-module _ (s : List ℕ) (ss : List Float) (at k left : ℕ) (all : List Float) (inv : cachedFrom (k + 1) (recordsFrom left (drop at s)) ss ≡ all) where
+module _ (m : SizeUnit) (s : List ℕ) (ss : List Float) (at k left : ℕ) (all : List Float) (inv : cachedFrom (k + 1) (recordsFrom m left (drop at s)) ss ≡ all) where
   pub cached-ended : length s ≤ at → ss ≡ all
-  cached-ended out = sym (no-records (k + 1) (recordsFrom left (drop at s)) ss (ap (λ (u : List ℕ). recordsFrom left u) (drop-of-length-le s out) ∙ none-left left)) ∙ inv
+  cached-ended out = sym (no-records (k + 1) (recordsFrom m left (drop at s)) ss (ap (λ (u : List ℕ). recordsFrom m left u) (drop-of-length-le s out) ∙ none-left m left)) ∙ inv
 
-  module _ (more : 0 < left) (here : at < length s) (r : Record) (er : r ≡ recordAt s at) where
-    front : cachedFrom (k + 1) (r ∷ recordsFrom (left - 1) (drop (nextAt s at) s)) ss ≡ all
-    front = ap (λ (rs : List Record). cachedFrom (k + 1) rs ss) (rw er (sym (records-step left s at more here))) ∙ inv
+  module _ (more : 0 < left) (here : at < length s) (r : Record) (er : r ≡ recordAt m s at) where
+    front : cachedFrom (k + 1) (r ∷ recordsFrom m (left - 1) (drop (nextAt s at) s)) ss ≡ all
+    front = ap (λ (rs : List Record). cachedFrom (k + 1) rs ss) (rw er (sym (records-step m left s at more here))) ∙ inv
 
-    pub cached-next : isStep r ≡ true → cachedFrom (k + 1 + 1) (recordsFrom (left - 1) (drop (nextAt s at) s)) (stored ss (k + 1) r) ≡ all
-    cached-next e = sym (cached-step (k + 1) r (recordsFrom (left - 1) (drop (nextAt s at) s)) ss e) ∙ front
+    pub cached-next : isStep r ≡ true → cachedFrom (k + 1 + 1) (recordsFrom m (left - 1) (drop (nextAt s at) s)) (stored ss (k + 1) r) ≡ all
+    cached-next e = sym (cached-step (k + 1) r (recordsFrom m (left - 1) (drop (nextAt s at) s)) ss e) ∙ front
 
     pub cached-stopped : isStep r ≡ false → ss ≡ all
-    cached-stopped e = sym (cached-stops (k + 1) r (recordsFrom (left - 1) (drop (nextAt s at) s)) ss e) ∙ front
+    cached-stopped e = sym (cached-stops (k + 1) r (recordsFrom m (left - 1) (drop (nextAt s at) s)) ss e) ∙ front
 
 -- ---- as a run goes through it
-none-cached : (left : ℕ) (ss : List Float) (n : ℕ) → AreCached left [] ss n
+none-cached : (m : SizeUnit) (left : ℕ) (ss : List Float) (n : ℕ) → AreCached m left [] ss n
 unfolding AreCached
-none-cached zero ss n = tt
-none-cached (suc left) ss n = tt
+none-cached m zero ss n = tt
+none-cached m (suc left) ss n = tt
 
-cached-rest : (left : ℕ) (u : List ℕ) (ss : List Float) (n : ℕ) → AreCached left u ss n → AreCached (left - 1) (rest u) ss (n + 1)
-cached-rest zero u ss n k = let e : zero - 1 ≡ 0 = omega arith in rw e (unfold AreCached in tt)
-cached-rest (suc left) [] ss n k = rw (drop-nil (size [])) (none-cached (suc left - 1) ss (n + 1))
-cached-rest (suc left) (b ∷ u) ss n k = let e : suc left - 1 ≡ left = omega arith in rw e (unfold AreCached in k .1)
+cached-rest : (m : SizeUnit) (left : ℕ) (u : List ℕ) (ss : List Float) (n : ℕ) → AreCached m left u ss n → AreCached m (left - 1) (rest u) ss (n + 1)
+cached-rest m zero u ss n k = let e : zero - 1 ≡ 0 = omega arith in rw e (unfold AreCached in tt)
+cached-rest m (suc left) [] ss n k = rw (drop-nil (size [])) (none-cached m (suc left - 1) ss (n + 1))
+cached-rest m (suc left) (b ∷ u) ss n k = let e : suc left - 1 ≡ left = omega arith in rw e (unfold AreCached in k .1)
 
-front-cached : (left : ℕ) (u : List ℕ) (ss : List Float) (n : ℕ) → 0 < left → 0 < length u → AreCached left u ss n → IsCached u ss n
+front-cached : (m : SizeUnit) (left : ℕ) (u : List ℕ) (ss : List Float) (n : ℕ) → 0 < left → 0 < length u → AreCached m left u ss n → IsCached m u ss n
 unfolding AreCached
-front-cached zero u ss n h l k = absurd (omega arith)
-front-cached (suc left) [] ss n h l k = absurd (omega arith)
-front-cached (suc left) (b ∷ u) ss n h l k = k .0
+front-cached m zero u ss n h l k = absurd (omega arith)
+front-cached m (suc left) [] ss n h l k = absurd (omega arith)
+front-cached m (suc left) (b ∷ u) ss n h l k = k .0
 
-module _ (s : List ℕ) (ss : List Float) (at n left : ℕ) (k : AreCached left (drop at s) ss n) where
-  pub still-cached : AreCached (left - 1) (drop (nextAt s at) s) ss (n + 1)
-  still-cached = rw (next-is-rest s at) (cached-rest left (drop at s) ss n k)
+module _ (m : SizeUnit) (s : List ℕ) (ss : List Float) (at n left : ℕ) (k : AreCached m left (drop at s) ss n) where
+  pub still-cached : AreCached m (left - 1) (drop (nextAt s at) s) ss (n + 1)
+  still-cached = rw (next-is-rest s at) (cached-rest m left (drop at s) ss n k)
 
-  pub cached-here : 0 < left → at < length s → IsCached (drop at s) ss n
-  cached-here more here = front-cached left (drop at s) ss n more (omega (arith, length-drop at s)) k
+  pub cached-here : 0 < left → at < length s → IsCached m (drop at s) ss n
+  cached-here more here = front-cached m left (drop at s) ss n more (omega (arith, length-drop at s)) k

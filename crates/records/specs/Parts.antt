@@ -1,4 +1,4 @@
--- RULES 6.5 to 6.7, 6.9: the parts of the record at the front of a text: its letter, its fields, counted from 0 here, and its end.
+-- RULES 6.5 to 6.7, 6.9, 6.24: the parts of the record at the front of a text: its letter, its fields, counted from 0 here, and its end.
 use Prim.Native.Nat.{ℕ, _+_, _*_}
 use mathlib.Core.List.{List}
 use mathlib.Core.Bool.{Bool, true, false}
@@ -15,6 +15,9 @@ use Rattle.text.specs.declared.Field.{Field}
 use Rattle.text.specs.declared.Field.the-variants as field
 use Rattle.records.specs.declared.Length.{Length}
 use Rattle.records.specs.declared.Length.the-variants.{Points, Blank, Wrong}
+use Rattle.records.specs.declared.SizeUnit.{SizeUnit}
+use Rattle.records.specs.declared.SizeUnit.the-variants.{Steps}
+use Rattle.records.specs.Units.{inSteps}
 
 -- ---- RULES 6.5: the letter and the end
 -- the letter; 0 where there is none
@@ -25,20 +28,23 @@ letter s = getD s 0 0
 unfoldable pub ends : List ℕ → ℕ → Bool
 ends s n = eqb (getD s (1 + 8 * n) 0) letters.LF
 
--- ---- RULES 6.6: a length
+-- ---- RULES 6.6, 6.24: a length
 -- z ticks in points: z / 32
 unfoldable pub points : ℤ → Float
 points z = val tick z
 
--- what a field holds, in points
-unfoldable pub inPoints : Field → Length
-inPoints field.Blank = Blank
-inPoints (field.Number z) = Points (points z)
-inPoints field.Wrong = Wrong
+-- what a field in this unit says
+unfoldable pub measured : SizeUnit → Field → Length
+measured u field.Blank = Blank
+measured u (field.Number z) = Points (points (inSteps tick u z))
+measured u field.Wrong = Wrong
 
--- field i, read with the limit
+-- field i, read with the limit: of a W, in the sheet's unit; and of any other record, in steps
+unfoldable pub sizeIn : SizeUnit → List ℕ → ℕ → Length
+sizeIn u s i = measured u (fieldAt 2097152 s (1 + 8 * i))
+
 unfoldable pub lengthIn : List ℕ → ℕ → Length
-lengthIn s i = inPoints (fieldAt 2097152 s (1 + 8 * i))
+lengthIn s i = sizeIn Steps s i
 
 -- whether it is a length, and which; zero where it is none
 unfoldable pub isLength : Length → Bool

@@ -1,4 +1,4 @@
--- RULES 6.5, 6.6, 6.8 to 6.10: what each letter's record says, and how long it is. Fields count from 0 here, from 1 in RULES.
+-- RULES 6.5, 6.6, 6.8 to 6.10, 6.24: what each letter's record says, and how long it is. Fields count from 0 here, from 1 in RULES.
 use Prim.Native.Nat.{ℕ, _+_, _*_, min}
 use mathlib.Core.List.{List}
 use mathlib.Core.Bool.{Bool, true, false, _&&_, cond}
@@ -22,7 +22,8 @@ use Rattle.records.specs.declared.Step.{Step}
 use Rattle.records.specs.declared.Step.the-variants.{Widget, Space, RowHeight, MaxWidth, MaxHeight, MinWidth, MinHeight, RowEnd}
 use Rattle.records.specs.declared.Record.{Record}
 use Rattle.records.specs.declared.Record.the-variants.{Step as Steps, Wrong}
-use Rattle.records.specs.Parts.{letter, ends, lengthIn, isLength, lengthValue, isMaximum, maximumValue, countIn, isCount, countValue}
+use Rattle.records.specs.declared.SizeUnit.{SizeUnit}
+use Rattle.records.specs.Parts.{letter, ends, lengthIn, isLength, lengthValue, sizeIn, isMaximum, maximumValue, countIn, isCount, countValue}
 
 -- ---- RULES 6.6: two lengths, fields i and i + 1
 unfoldable pub pairFits : List ℕ → ℕ → Bool
@@ -95,10 +96,10 @@ gridFits s = pairFits s 0 && maximaFit s && isColumns (countIn s 4 32) && isCoun
 unfoldable pub stepRecord : List ℕ → ℕ → Bool → Step → Record
 stepRecord s n fits step = cond (fits && ends s n) (Steps step) Wrong
 
--- W, two lengths
-unfoldable pub widgetRecord : List ℕ → Record
-widgetRecord s =
-    stepRecord s 2 (isLength (lengthIn s 0) && isLength (lengthIn s 1)) (Widget (lengthValue (lengthIn s 0)) (lengthValue (lengthIn s 1)))
+-- W, two lengths in the sheet's unit (RULES 6.24); no other record has it
+unfoldable pub widgetRecord : SizeUnit → List ℕ → Record
+widgetRecord u s =
+    stepRecord s 2 (isLength (sizeIn u s 0) && isLength (sizeIn u s 1)) (Widget (lengthValue (sizeIn u s 0)) (lengthValue (sizeIn u s 1)))
 
 -- a letter with one length
 abbrev pub single : List ℕ → (Float → Step) → Record
@@ -116,14 +117,14 @@ singleRecord s b =
     Wrong)))))
 
 -- the record at the front of a text, where a step may stand: W, E, or a letter with one length; and the one at a place
-unfoldable pub recordOf : List ℕ → Record
-recordOf s =
-    cond (eqb (letter s) letters.W) (widgetRecord s)
+unfoldable pub recordOf : SizeUnit → List ℕ → Record
+recordOf u s =
+    cond (eqb (letter s) letters.W) (widgetRecord u s)
     (cond (eqb (letter s) letters.E) (stepRecord s 0 true RowEnd)
     (singleRecord s (letter s)))
 
-unfoldable pub recordAt : List ℕ → ℕ → Record
-recordAt s at = recordOf (drop at s)
+unfoldable pub recordAt : SizeUnit → List ℕ → ℕ → Record
+recordAt u s at = recordOf u (drop at s)
 
 -- ---- RULES 6.5: how long a record is: the letter, eight columns for each field, the LF
 unfoldable pub fieldCount : ℕ → ℕ

@@ -10,17 +10,18 @@ use Rattle.records.specs.declared.Step.{Step}
 use Rattle.records.specs.declared.Step.the-variants.{Widget, Space, RowHeight, MaxWidth, MaxHeight, MinWidth, MinHeight, RowEnd}
 use Rattle.records.specs.declared.Record.{Record}
 use Rattle.records.specs.declared.Record.the-variants.{Step as Steps, Wrong}
+use Rattle.records.specs.declared.SizeUnit.{SizeUnit}
 use Rattle.records.specs.declared.Checked.{Checked}
 use Rattle.records.specs.declared.Checked.the-variants.{Accepted, Refused}
 use Rattle.records.specs.Records.{recordOf, rest}
 use Rattle.records.specs.Headings.{headingIn, headingFault}
 
 -- ---- RULES 6.11: the text as records
--- the first `left` records, or as many as there are
-unfoldable pub recordsFrom : ℕ → List ℕ → List Record
-recordsFrom zero s = []
-recordsFrom (suc left) [] = []
-recordsFrom (suc left) (b ∷ s) = recordOf (b ∷ s) ∷ recordsFrom left (rest (b ∷ s))
+-- the first `left` records, or as many as there are, in the sheet's unit
+unfoldable pub recordsFrom : SizeUnit → ℕ → List ℕ → List Record
+recordsFrom u zero s = []
+recordsFrom u (suc left) [] = []
+recordsFrom u (suc left) (b ∷ s) = recordOf u (b ∷ s) ∷ recordsFrom u left (rest (b ∷ s))
 
 -- what follows them
 unfoldable pub after : ℕ → List ℕ → List ℕ
@@ -35,7 +36,7 @@ abbrev pub stepsLeft : List ℕ → ℕ
 stepsLeft s = mostRecords - headingIn s .records
 
 abbrev pub records : List ℕ → List Record
-records s = recordsFrom (stepsLeft s) (drop (headingIn s .next) s)
+records s = recordsFrom (headingIn s .unit) (stepsLeft s) (drop (headingIn s .next) s)
 
 abbrev pub afterAll : List ℕ → List ℕ
 afterAll s = after (stepsLeft s) (drop (headingIn s .next) s)

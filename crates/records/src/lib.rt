@@ -1,4 +1,4 @@
-// A sheet's records (RULES 6.5 to 6.11): what the text of each says, and the checks over a whole sheet (RULES 8.6 to 8.8).
+// A sheet's records (RULES 6.5 to 6.11, 6.24): what the text of each says, and the checks over a whole sheet (RULES 8.6 to 8.8).
 use emath::Rect;
 use emath::Vec2;
 use layout::Layout;
@@ -10,8 +10,9 @@ mod parts;
 pub mod records;
 pub mod sheets;
 pub mod size_cache;
+mod units;
 
-// The greatest magnitude of a length, in ticks.
+// The greatest magnitude of a length, as its field has it.
 pub const LIMIT: u32 = 2097152;
 
 pub const MAX_RECORDS: usize = 512;
@@ -29,11 +30,20 @@ pub struct GridOptions {
     pub start_row: usize,
 }
 
-// What comes before the first step: H, and G where there is one.
+// What the fields of a W are in.
+pub enum SizeUnit {
+    // Steps of the sheet, as all its other lengths.
+    Steps,
+    // Hundredths of a millimetre.
+    Hundredths,
+}
+
+// What comes before the first step: H, and M and G where they are there.
 pub struct Heading {
     pub layout: Layout,
     pub max_rect: Rect,
     pub spacing: Vec2,
+    pub unit: SizeUnit,
     pub has_grid: bool,
     // All zero without a G.
     pub options: GridOptions,

@@ -1,6 +1,8 @@
-// The parts of a record at the front of a text: bytes, lengths and counts, its end (RULES 6.5 to 6.7, 6.9).
+// The parts of a record at the front of a text: bytes, lengths and counts, its end (RULES 6.5 to 6.7, 6.9, 6.24).
 use crate::LIMIT;
 use crate::Length;
+use crate::SizeUnit;
+use crate::units::in_steps;
 use emath::TICKS_PER_POINT;
 use emath::num::infinity;
 use text::Field;
@@ -9,7 +11,7 @@ ghost use mathlib.Core.Path.{_≡_};
 ghost use Prim.Native.Nat.{_≤_, _<_};
 ghost use lib.IntN.{natAbs};
 ghost use lib.ListN.{getD};
-ghost use Rattle.records.specs.Parts.{points as pointsOf, lengthIn, countIn, isLength, isMaximum, lengthValue, maximumValue, isCount, natural as naturalOf, countValue, ends as endsWith};
+ghost use Rattle.records.specs.Parts.{points as pointsOf, lengthIn, sizeIn, countIn, isLength, isMaximum, lengthValue, maximumValue, isCount, natural as naturalOf, countValue, ends as endsWith};
 
 // 0 beyond the text's end.
 pub fn byte(text: &[u8], at: usize) -> u8
@@ -29,16 +31,24 @@ fn points(z: i32) -> f32
     z as f32 / TICKS_PER_POINT
 }
 
-// Field i of the record, from 0.
+// Field i of the record, from 0, in this unit.
+pub fn size(text: &[u8], unit: SizeUnit, i: usize) -> Length
+    requires { ⌜ i < 12 ⌝ }
+    ensures { λ r. ⌜ r ≡ sizeIn unit (now (text .entry)) i ⌝ }
+{
+    match read_field(text, 1 + 8 * i, LIMIT) {
+        Field::Blank => Length::Blank,
+        Field::Number(z) => Length::Points(points(in_steps(unit, z))),
+        Field::Wrong => Length::Wrong,
+    }
+}
+
+// Field i of any record but a W: in steps, whatever the sheet's unit.
 pub fn length(text: &[u8], i: usize) -> Length
     requires { ⌜ i < 12 ⌝ }
     ensures { λ r. ⌜ r ≡ lengthIn (now (text .entry)) i ⌝ }
 {
-    match read_field(text, 1 + 8 * i, LIMIT) {
-        Field::Blank => Length::Blank,
-        Field::Number(z) => Length::Points(points(z)),
-        Field::Wrong => Length::Wrong,
-    }
+    size(text, SizeUnit::Steps, i)
 }
 
 // Field i of the record, whose number is at most `most`.

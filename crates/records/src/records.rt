@@ -1,11 +1,13 @@
-// One record, by its letter (RULES 6.10), and where the next one begins (RULES 6.5).
+// One record, by its letter (RULES 6.10, 6.24), and where the next one begins (RULES 6.5).
 use crate::Record;
+use crate::SizeUnit;
 use crate::Step;
 use crate::parts::byte;
 use crate::parts::ends;
 use crate::parts::is_length;
 use crate::parts::length;
 use crate::parts::length_value;
+use crate::parts::size;
 ghost use mathlib.Core.Path.{_≡_};
 ghost use Prim.Native.Nat.{_≤_};
 ghost use Rattle.records.specs.Records.{stepRecord, widgetRecord, singleRecord, recordOf, recordAt, fieldCount, nextAt};
@@ -21,11 +23,12 @@ fn step_record(text: &[u8], n: usize, fits: bool, step: Step) -> Record
     Record::Wrong
 }
 
-fn widget(text: &[u8]) -> Record
-    ensures { λ r. ⌜ r ≡ widgetRecord (now (text .entry)) ⌝ }
+// Its size is in the sheet's unit.
+fn widget(text: &[u8], unit: SizeUnit) -> Record
+    ensures { λ r. ⌜ r ≡ widgetRecord unit (now (text .entry)) ⌝ }
 {
-    let width = length(text, 0);
-    let height = length(text, 1);
+    let width = size(text, unit, 0);
+    let height = size(text, unit, 1);
     let fits = is_length(width) & is_length(height);
     step_record(
         text,
@@ -54,26 +57,26 @@ fn single(text: &[u8], letter: u8) -> Record
 }
 
 // The record at the front of the text.
-pub fn first_record(text: &[u8]) -> Record
-    ensures { λ r. ⌜ r ≡ recordOf (now (text .entry)) ⌝ }
+pub fn first_record(text: &[u8], unit: SizeUnit) -> Record
+    ensures { λ r. ⌜ r ≡ recordOf unit (now (text .entry)) ⌝ }
 {
     let letter = byte(text, 0);
     match letter {
-        b'W' => widget(text),
+        b'W' => widget(text, unit),
         b'E' => step_record(text, 0, true, Step::RowEnd),
         _ => single(text, letter),
     }
 }
 
 // The record at a place; wrong beyond the text's end.
-pub fn read_record(text: &[u8], at: usize) -> Record
-    ensures { λ r. ⌜ r ≡ recordAt (now (text .entry)) at ⌝ }
+pub fn read_record(text: &[u8], unit: SizeUnit, at: usize) -> Record
+    ensures { λ r. ⌜ r ≡ recordAt unit (now (text .entry)) at ⌝ }
 {
     let n = text.len();
     if n < at {
         return Record::Wrong;
     }
-    first_record(&text[at..n])
+    first_record(&text[at..n], unit)
 }
 
 fn field_count(letter: u8) -> usize

@@ -77,6 +77,7 @@ pub fn check_caching(text: &[u8], room: usize, sizes: &mut [f32]) -> Checked
         return Checked::Refused(MALFORMED, fault);
     }
     let h = read_heading(text);
+    let unit = h.unit;
     let n = text.len();
     let mut at = h.next;
     let mut k = h.records;
@@ -86,7 +87,7 @@ pub fn check_caching(text: &[u8], room: usize, sizes: &mut [f32]) -> Checked
         if n <= at {
             return ended(k, w, room);
         }
-        let r = read_record(text, at);
+        let r = read_record(text, unit, at);
         if is_step(r) {
             store(sizes, k + 1, r);
             w += widget(r);

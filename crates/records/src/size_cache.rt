@@ -1,5 +1,6 @@
 // A cache of W sizes by the record's number: filled when a sheet is checked, so that the fields of a W are read once.
 use crate::Record;
+use crate::SizeUnit;
 use crate::Step;
 use crate::parts::byte;
 use crate::records::read_record;
@@ -43,15 +44,15 @@ pub fn store(sizes: &mut [f32], n: usize, r: Record)
 }
 
 // The record at `at`, which is record n: a W from the cache, any other read from the text.
-pub fn cached_record(text: &[u8], at: usize, sizes: &[f32], n: usize) -> Record
+pub fn cached_record(text: &[u8], unit: SizeUnit, at: usize, sizes: &[f32], n: usize) -> Record
     requires { ⌜ (n ≤ 512) × (length (now sizes) ≡ 1026) ⌝ }
-    requires { ⌜ IsCached (drop at (now text)) (now sizes) n ⌝ }
-    ensures { λ r. ⌜ r ≡ recordAt (now (text .entry)) at ⌝ }
+    requires { ⌜ IsCached unit (drop at (now text)) (now sizes) n ⌝ }
+    ensures { λ r. ⌜ r ≡ recordAt unit (now (text .entry)) at ⌝ }
 {
     if byte(text, at) == b'W' {
         let width = sizes[n];
         let height = sizes[HEIGHTS + n];
         return Record::Step(Step::Widget(width, height));
     }
-    read_record(text, at)
+    read_record(text, unit, at)
 }

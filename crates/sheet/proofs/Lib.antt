@@ -15,3 +15,4 @@ mod WalkedRuns
 pub mod Returned
 mod WalkedPasses
 pub mod Shown
+pub mod Controls

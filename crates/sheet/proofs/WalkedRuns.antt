@@ -17,6 +17,7 @@ use Rattle.emath.specs.declared.Rect.{Rect}
 use Rattle.emath.specs.declared.Vec2.{Vec2}
 use Rattle.region.specs.Refusals.{zeroRect}
 use Rattle.placer.specs.declared.Placer.{Placer}
+use Rattle.records.specs.declared.SizeUnit.{SizeUnit}
 use Rattle.records.specs.Records.{recordOf, rest}
 use Rattle.records.specs.Sheets.{recordsFrom}
 use Rattle.records.specs.declared.Step.{Step}
@@ -104,46 +105,46 @@ pub first-step : {r : Record} {rs : List Record} → OnlySteps (r ∷ rs) → (s
 first-step (more {st = st} t) = (st, refl, t)
 
 -- a record, and the run from there on
-unfoldable turn-of : ℕ → Vec2 → ℕ → Placer → List ℕ → List ℤ → ℕ → Rect → Record → Walk
-turn-of left sp n p u out w plate r =
+unfoldable turn-of : SizeUnit → ℕ → Vec2 → ℕ → Placer → List ℕ → List ℤ → ℕ → Rect → Record → Walk
+turn-of v left sp n p u out w plate r =
     cond (eqb (recordResult p sp r .number) 0)
-    (walked left sp (n + 1) (recordResult p sp r .placer) u (putAt out w (recordResult p sp r .placed) (recordResult p sp r .frame) (recordResult p sp r .widget)) (w + recordResult p sp r .placed) (plateWith plate w (recordResult p sp r .placed) (recordResult p sp r .frame)))
+    (walked v left sp (n + 1) (recordResult p sp r .placer) u (putAt out w (recordResult p sp r .placed) (recordResult p sp r .frame) (recordResult p sp r .widget)) (w + recordResult p sp r .placed) (plateWith plate w (recordResult p sp r .placed) (recordResult p sp r .frame)))
     (record { run = record { number = recordResult p sp r .number; at = n; placer = recordResult p sp r .placer; plate = plate }; slice = out })
 
-step-turn : (left : ℕ) (sp : Vec2) (n : ℕ) (p : Placer) (u : List ℕ) (out : List ℤ) (w : ℕ) (plate : Rect) (st : Step) (rs : List Record)
-    → ((n : ℕ) (p : Placer) (out : List ℤ) (w : ℕ) (plate : Rect) → walked left sp n p u out w plate ≡ walkOf out w plate (runFrom tick sp n p (stepsOf rs)))
-    → turn-of left sp n p u out w plate (record-of.Step st) ≡ walkOf out w plate (runFrom tick sp n p (stepsOf (record-of.Step st ∷ rs)))
+step-turn : (v : SizeUnit) (left : ℕ) (sp : Vec2) (n : ℕ) (p : Placer) (u : List ℕ) (out : List ℤ) (w : ℕ) (plate : Rect) (st : Step) (rs : List Record)
+    → ((n : ℕ) (p : Placer) (out : List ℤ) (w : ℕ) (plate : Rect) → walked v left sp n p u out w plate ≡ walkOf out w plate (runFrom tick sp n p (stepsOf rs)))
+    → turn-of v left sp n p u out w plate (record-of.Step st) ≡ walkOf out w plate (runFrom tick sp n p (stepsOf (record-of.Step st ∷ rs)))
 unfolding turn-of recordResult stepsOf runFrom
-step-turn left sp n p u out w plate st rs ih =
+step-turn v left sp n p u out w plate st rs ih =
     let a = as-rule p sp st out w plate in
     let later = runFrom tick sp (n + 1) (stepResult p sp st .placer) (stepsOf rs) in
     let same : later ≡ runFrom tick sp (n + 1) (stepped tick sp p st .placer) (stepsOf rs) = ap (λ (q : Placer). runFrom tick sp (n + 1) q (stepsOf rs)) (a .placer) in
     one-record n (stepResult p sp st) (stepped tick sp p st) out w plate later _ a (ih (n + 1) (stepResult p sp st .placer) _ _ _) ∙ ap (λ (r : Ran). walkOf out w plate (followed n (stepped tick sp p st) r)) same
 
-front-turn : (left : ℕ) (sp : Vec2) (n : ℕ) (p : Placer) (b : ℕ) (s : List ℕ) (out : List ℤ) (w : ℕ) (plate : Rect)
-    → walked (suc left) sp n p (b ∷ s) out w plate ≡ turn-of left sp n p (rest (b ∷ s)) out w plate (recordOf (b ∷ s))
+front-turn : (v : SizeUnit) (left : ℕ) (sp : Vec2) (n : ℕ) (p : Placer) (b : ℕ) (s : List ℕ) (out : List ℤ) (w : ℕ) (plate : Rect)
+    → walked v (suc left) sp n p (b ∷ s) out w plate ≡ turn-of v left sp n p (rest (b ∷ s)) out w plate (recordOf v (b ∷ s))
 unfolding walked turn-of
-front-turn left sp n p b s out w plate = refl
+front-turn v left sp n p b s out w plate = refl
 
 no-walk : (out : List ℤ) (w n : ℕ) (plate : Rect) (p : Placer) (sp : Vec2) → done p out plate ≡ walkOf out w plate (runFrom tick sp n p (stepsOf []))
 unfolding runFrom stepsOf written joinedAll
 no-walk out w n plate p sp = refl
 
-walked-is-run : (left : ℕ) (sp : Vec2) (n : ℕ) (p : Placer) (s : List ℕ) (out : List ℤ) (w : ℕ) (plate : Rect) → OnlySteps (recordsFrom left s)
-    → walked left sp n p s out w plate ≡ walkOf out w plate (runFrom tick sp n p (stepsOf (recordsFrom left s)))
+walked-is-run : (v : SizeUnit) (left : ℕ) (sp : Vec2) (n : ℕ) (p : Placer) (s : List ℕ) (out : List ℤ) (w : ℕ) (plate : Rect) → OnlySteps (recordsFrom v left s)
+    → walked v left sp n p s out w plate ≡ walkOf out w plate (runFrom tick sp n p (stepsOf (recordsFrom v left s)))
 unfolding walked recordsFrom
-walked-is-run zero sp n p s out w plate o = no-walk out w n plate p sp
-walked-is-run (suc left) sp n p [] out w plate o = no-walk out w n plate p sp
-walked-is-run (suc left) sp n p (b ∷ s) out w plate o =
+walked-is-run v zero sp n p s out w plate o = no-walk out w n plate p sp
+walked-is-run v (suc left) sp n p [] out w plate o = no-walk out w n plate p sp
+walked-is-run v (suc left) sp n p (b ∷ s) out w plate o =
     let f = first-step o in
-    let t = step-turn left sp n p (rest (b ∷ s)) out w plate (f .0) (recordsFrom left (rest (b ∷ s))) (λ n p out w plate. walked-is-run left sp n p (rest (b ∷ s)) out w plate (f .2)) in
-    front-turn left sp n p b s out w plate ∙ subst (λ (r : Record). turn-of left sp n p (rest (b ∷ s)) out w plate r ≡ walkOf out w plate (runFrom tick sp n p (stepsOf (r ∷ recordsFrom left (rest (b ∷ s)))))) (sym (f .1)) t
+    let t = step-turn v left sp n p (rest (b ∷ s)) out w plate (f .0) (recordsFrom v left (rest (b ∷ s))) (λ n p out w plate. walked-is-run v left sp n p (rest (b ∷ s)) out w plate (f .2)) in
+    front-turn v left sp n p b s out w plate ∙ subst (λ (r : Record). turn-of v left sp n p (rest (b ∷ s)) out w plate r ≡ walkOf out w plate (runFrom tick sp n p (stepsOf (r ∷ recordsFrom v left (rest (b ∷ s)))))) (sym (f .1)) t
 
 -- so is what the loop comes to
-pub as-walked : (most : ℕ) (sp : Vec2) (n : ℕ) (p : Placer) (s : List ℕ) (out : List ℤ) (r : Run) (exit : List ℤ) → OnlySteps (recordsFrom most s)
-    → record { run = r; slice = exit } ≡ walked most sp n p s out 0 zeroRect → Walked sp n p (stepsOf (recordsFrom most s)) out r exit
-as-walked most sp n p s out r exit o e =
-    let all = runFrom tick sp n p (stepsOf (recordsFrom most s)) in
-    let x : record { run = r; slice = exit } ≡ walkOf out 0 zeroRect all = e ∙ walked-is-run most sp n p s out 0 zeroRect o in
+pub as-walked : (v : SizeUnit) (most : ℕ) (sp : Vec2) (n : ℕ) (p : Placer) (s : List ℕ) (out : List ℤ) (r : Run) (exit : List ℤ) → OnlySteps (recordsFrom v most s)
+    → record { run = r; slice = exit } ≡ walked v most sp n p s out 0 zeroRect → Walked sp n p (stepsOf (recordsFrom v most s)) out r exit
+as-walked v most sp n p s out r exit o e =
+    let all = runFrom tick sp n p (stepsOf (recordsFrom v most s)) in
+    let x : record { run = r; slice = exit } ≡ walkOf out 0 zeroRect all = e ∙ walked-is-run v most sp n p s out 0 zeroRect o in
     let y : r ≡ record { number = all .number; at = all .at; placer = all .placer; plate = joinedAll zeroRect 0 (all .cells) } = ap (λ (w : Walk). w .run) x in
     record { run = rw y; plate = ap (λ (q : Run). q .plate) y ∙ all-joined (all .cells); slice = ap (λ (w : Walk). w .slice) x }

@@ -15,6 +15,7 @@ use Rattle.emath.specs.declared.Vec2.{Vec2}
 use Rattle.region.specs.Steps.{WholeRect}
 use Rattle.placer.specs.Refusals.{placerFault}
 use Rattle.placer.specs.declared.Placer.{Placer}
+use Rattle.records.specs.declared.SizeUnit.{SizeUnit}
 use Rattle.records.specs.Records.{recordOf, recordAt, rest, nextAt}
 use Rattle.records.specs.Sheets.{recordsFrom, widget, widgetStep, widgets}
 use Rattle.records.proofs.Places.{next-is-rest}
@@ -84,69 +85,69 @@ at-most-one (record-of.Step st) = one-or-none st
 at-most-one record-of.Wrong = omega arith
 
 -- ---- one turn
-front : (left : ℕ) (sp : Vec2) (n : ℕ) (p : Placer) (u : List ℕ) (out : List ℤ) (w : ℕ) (plate : Rect) → 0 < left → 0 < length u
-    → walked left sp n p u out w plate
-    ≡ cond (eqb (recordResult p sp (recordOf u) .number) 0)
-    (walked (left - 1) sp (n + 1) (recordResult p sp (recordOf u) .placer) (rest u) (putAt out w (recordResult p sp (recordOf u) .placed) (recordResult p sp (recordOf u) .frame) (recordResult p sp (recordOf u) .widget)) (w + recordResult p sp (recordOf u) .placed) (plateWith plate w (recordResult p sp (recordOf u) .placed) (recordResult p sp (recordOf u) .frame)))
-    (record { run = record { number = recordResult p sp (recordOf u) .number; at = n; placer = recordResult p sp (recordOf u) .placer; plate = plate }; slice = out })
+front : (m : SizeUnit) (left : ℕ) (sp : Vec2) (n : ℕ) (p : Placer) (u : List ℕ) (out : List ℤ) (w : ℕ) (plate : Rect) → 0 < left → 0 < length u
+    → walked m left sp n p u out w plate
+    ≡ cond (eqb (recordResult p sp (recordOf m u) .number) 0)
+    (walked m (left - 1) sp (n + 1) (recordResult p sp (recordOf m u) .placer) (rest u) (putAt out w (recordResult p sp (recordOf m u) .placed) (recordResult p sp (recordOf m u) .frame) (recordResult p sp (recordOf m u) .widget)) (w + recordResult p sp (recordOf m u) .placed) (plateWith plate w (recordResult p sp (recordOf m u) .placed) (recordResult p sp (recordOf m u) .frame)))
+    (record { run = record { number = recordResult p sp (recordOf m u) .number; at = n; placer = recordResult p sp (recordOf m u) .placer; plate = plate }; slice = out })
 unfolding walked
-front zero sp n p u out w plate h l = absurd (omega arith)
-front (suc left) sp n p [] out w plate h l = absurd (omega arith)
-front (suc left) sp n p (b ∷ u) out w plate h l = let e : suc left - 1 ≡ left = omega arith in rw e
+front m zero sp n p u out w plate h l = absurd (omega arith)
+front m (suc left) sp n p [] out w plate h l = absurd (omega arith)
+front m (suc left) sp n p (b ∷ u) out w plate h l = let e : suc left - 1 ≡ left = omega arith in rw e
 
-ended-walk : (left : ℕ) (sp : Vec2) (n : ℕ) (p : Placer) (out : List ℤ) (w : ℕ) (plate : Rect) → walked left sp n p [] out w plate ≡ done p out plate
+ended-walk : (m : SizeUnit) (left : ℕ) (sp : Vec2) (n : ℕ) (p : Placer) (out : List ℤ) (w : ℕ) (plate : Rect) → walked m left sp n p [] out w plate ≡ done p out plate
 unfolding walked
-ended-walk zero sp n p out w plate = refl
-ended-walk (suc left) sp n p out w plate = refl
+ended-walk m zero sp n p out w plate = refl
+ended-walk m (suc left) sp n p out w plate = refl
 
-full-walk : (left : ℕ) (sp : Vec2) (n : ℕ) (p : Placer) (u : List ℕ) (out : List ℤ) (w : ℕ) (plate : Rect) → left ≤ 0 → walked left sp n p u out w plate ≡ done p out plate
+full-walk : (m : SizeUnit) (left : ℕ) (sp : Vec2) (n : ℕ) (p : Placer) (u : List ℕ) (out : List ℤ) (w : ℕ) (plate : Rect) → left ≤ 0 → walked m left sp n p u out w plate ≡ done p out plate
 unfolding walked
-full-walk zero sp n p u out w plate h = refl
-full-walk (suc left) sp n p u out w plate h = absurd (omega arith)
+full-walk m zero sp n p u out w plate h = refl
+full-walk m (suc left) sp n p u out w plate h = absurd (omega arith)
 
 -- what a turn gives that reads a record: m, what the record gives
-pub record Turn (text : List ℕ) (sp : Vec2) (left n at w : ℕ) (p : Placer) (out : List ℤ) (plate : Rect) (r : Walk) (m : CallResult) : Type 0 where
+pub record Turn (u : SizeUnit) (text : List ℕ) (sp : Vec2) (left n at w : ℕ) (p : Placer) (out : List ℤ) (plate : Rect) (r : Walk) (m : CallResult) : Type 0 where
   pub stops : (m .number ≡ 0 → ⊥) → record { run = record { number = m .number; at = n; placer = m .placer; plate = plate }; slice = out } ≡ r
-  pub goes-on : m .number ≡ 0 → walked (left - 1) sp (n + 1) (m .placer) (drop (nextAt text at) text) (putAt out w (m .placed) (m .frame) (m .widget)) (w + m .placed) (plateWith plate w (m .placed) (m .frame)) ≡ r
+  pub goes-on : m .number ≡ 0 → walked u (left - 1) sp (n + 1) (m .placer) (drop (nextAt text at) text) (putAt out w (m .placed) (m .frame) (m .widget)) (w + m .placed) (plateWith plate w (m .placed) (m .frame)) ≡ r
   -- the slice has room for the W that are left
-  pub room : 8 * (w + widgets (recordsFrom left (drop at text))) ≤ length out → 8 * (w + m .placed + widgets (recordsFrom (left - 1) (drop (nextAt text at) text))) ≤ length out
+  pub room : 8 * (w + widgets (recordsFrom u left (drop at text))) ≤ length out → 8 * (w + m .placed + widgets (recordsFrom u (left - 1) (drop (nextAt text at) text))) ≤ length out
   pub few : m .placed ≤ 1
   pub in-ticks : m .number ≡ 0 → 0 < m .placed → Whole m
   pub unfaulted : m .number ≡ 0 → placerFault (m .placer) ≡ 0
 
-module _ (text : List ℕ) (sp : Vec2) (left n at w : ℕ) (p : Placer) (out : List ℤ) (plate : Rect) (r : Walk) (inv : walked left sp n p (drop at text) out w plate ≡ r) where
+module _ (u : SizeUnit) (text : List ℕ) (sp : Vec2) (left n at w : ℕ) (p : Placer) (out : List ℤ) (plate : Rect) (r : Walk) (inv : walked u left sp n p (drop at text) out w plate ≡ r) where
   pub walk-ends : length text ≤ at → done p out plate ≡ r
-  walk-ends h = sym (ended-walk left sp n p out w plate) ∙ ap (λ (u : List ℕ). walked left sp n p u out w plate) (sym (drop-of-length-le text h)) ∙ inv
+  walk-ends h = sym (ended-walk u left sp n p out w plate) ∙ ap (λ (s : List ℕ). walked u left sp n p s out w plate) (sym (drop-of-length-le text h)) ∙ inv
 
   pub walk-is-full : left ≤ 0 → done p out plate ≡ r
-  walk-is-full h = sym (full-walk left sp n p (drop at text) out w plate h) ∙ inv
+  walk-is-full h = sym (full-walk u left sp n p (drop at text) out w plate h) ∙ inv
 
-  module _ (more : 0 < left) (here : at < length text) (m : CallResult) (em : m ≡ recordResult p sp (recordAt text at)) where
-    next : cond (eqb (m .number) 0) (walked (left - 1) sp (n + 1) (m .placer) (drop (nextAt text at) text) (putAt out w (m .placed) (m .frame) (m .widget)) (w + m .placed) (plateWith plate w (m .placed) (m .frame)))
+  module _ (more : 0 < left) (here : at < length text) (m : CallResult) (em : m ≡ recordResult p sp (recordAt u text at)) where
+    next : cond (eqb (m .number) 0) (walked u (left - 1) sp (n + 1) (m .placer) (drop (nextAt text at) text) (putAt out w (m .placed) (m .frame) (m .widget)) (w + m .placed) (plateWith plate w (m .placed) (m .frame)))
         (record { run = record { number = m .number; at = n; placer = m .placer; plate = plate }; slice = out }) ≡ r
     unfolding recordAt
     next =
         let l : 0 < length (drop at text) = omega (arith, length-drop at text) in
-        rw (em, next-is-rest text at) (sym (front left sp n p (drop at text) out w plate more l) ∙ inv)
+        rw (em, next-is-rest text at) (sym (front u left sp n p (drop at text) out w plate more l) ∙ inv)
 
-    placed-here : m .placed ≡ widget (recordAt text at)
-    placed-here = ap (λ (x : CallResult). x .placed) em ∙ result-placed p sp (recordAt text at)
+    placed-here : m .placed ≡ widget (recordAt u text at)
+    placed-here = ap (λ (x : CallResult). x .placed) em ∙ result-placed p sp (recordAt u text at)
 
-    room-left : 8 * (w + widgets (recordsFrom left (drop at text))) ≤ length out → 8 * (w + m .placed + widgets (recordsFrom (left - 1) (drop (nextAt text at) text))) ≤ length out
+    room-left : 8 * (w + widgets (recordsFrom u left (drop at text))) ≤ length out → 8 * (w + m .placed + widgets (recordsFrom u (left - 1) (drop (nextAt text at) text))) ≤ length out
     unfolding widgets
     room-left h =
-        let e : widgets (recordsFrom left (drop at text)) ≡ widget (recordAt text at) + widgets (recordsFrom (left - 1) (drop (nextAt text at) text)) = ap (λ (rs : List Record). widgets rs) (records-step left text at more here) in
+        let e : widgets (recordsFrom u left (drop at text)) ≡ widget (recordAt u text at) + widgets (recordsFrom u (left - 1) (drop (nextAt text at) text)) = ap (λ (rs : List Record). widgets rs) (records-step u left text at more here) in
         omega (arith, h, e, placed-here)
 
-    accepted-here : m .number ≡ 0 → recordResult p sp (recordAt text at) .number ≡ 0
+    accepted-here : m .number ≡ 0 → recordResult p sp (recordAt u text at) .number ≡ 0
     accepted-here h = ap (λ (x : CallResult). x .number) (sym em) ∙ h
 
-    pub turn : Turn text sp left n at w p out plate r m
+    pub turn : Turn u text sp left n at w p out plate r m
     turn = record {
       stops = λ h. rw (ne-eqb (m .number) 0 h) at next;
       goes-on = λ h. rw (eq-eqb (m .number) 0 h) at next;
       room = room-left;
-      few = omega (arith, placed-here, at-most-one (recordAt text at));
-      in-ticks = λ h l. subst Whole (sym em) (result-whole p sp (recordAt text at) (accepted-here h) (subst (λ (x : CallResult). 0 < x .placed) em l));
-      unfaulted = λ h. subst (λ (x : CallResult). placerFault (x .placer) ≡ 0) (sym em) (moved-none p sp (recordAt text at) (accepted-here h));
+      few = omega (arith, placed-here, at-most-one (recordAt u text at));
+      in-ticks = λ h l. subst Whole (sym em) (result-whole p sp (recordAt u text at) (accepted-here h) (subst (λ (x : CallResult). 0 < x .placed) em l));
+      unfaulted = λ h. subst (λ (x : CallResult). placerFault (x .placer) ≡ 0) (sym em) (moved-none p sp (recordAt u text at) (accepted-here h));
     }

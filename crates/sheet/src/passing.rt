@@ -15,6 +15,7 @@ use records::CACHE_LEN;
 use records::Checked;
 use records::Heading;
 use records::MAX_RECORDS;
+use records::SizeUnit;
 use records::headings::read_heading;
 use records::sheets::check_caching;
 ghost use mathlib.Core.Path.{_≡_};
@@ -34,6 +35,7 @@ ghost use Rattle.sheet.specs.Implementation.Walks.{OnlySteps, recordsAft
 fn walk_from(
     placer: Placer,
     text: &[u8],
+    unit: SizeUnit,
     sizes: &[f32],
     from: usize,
     first: usize,
@@ -45,8 +47,8 @@ fn walk_from(
 ) -> Passed
     requires { ⌜ placerFault placer ≡ 0 ⌝ }
     requires { ⌜ (from ≤ length (now text)) × (first + most ≤ 513) ⌝ }
-    requires { ⌜ OnlySteps (recordsFrom most (drop from (now text))) × (8 * widgets (recordsFrom most (drop from (now text))) ≤ length (now out)) × (length (now sizes) ≡ 1026) × AreCached most (drop from (now text)) (now sizes) first ⌝ }
-    ensures { λ r. ⌜ Answers grid memory (runFrom tick spacing first placer (stepsOf (recordsFrom most (drop from (now (text .entry)))))) (now (out .entry)) r (now (out .exit)) ⌝ }
+    requires { ⌜ OnlySteps (recordsFrom unit most (drop from (now text))) × (8 * widgets (recordsFrom unit most (drop from (now text))) ≤ length (now out)) × (length (now sizes) ≡ 1026) × AreCached unit most (drop from (now text)) (now sizes) first ⌝ }
+    ensures { λ r. ⌜ Answers grid memory (runFrom tick spacing first placer (stepsOf (recordsFrom unit most (drop from (now (text .entry)))))) (now (out .entry)) r (now (out .exit)) ⌝ }
 {
     let g = placer.grid;
     let prev = g.prev_state;
@@ -57,6 +59,7 @@ fn walk_from(
     let b = settings(placer);
     let r = run(
         text,
+        unit,
         sizes,
         from,
         first,
@@ -86,9 +89,11 @@ fn go_on(
     requires { ⌜ Room heading (now text) (length (now out)) (now sizes) ⌝ }
     ensures { λ r. ⌜ Answers (heading .«has_grid») memory (runFrom tick (heading .spacing) (heading .records + 1) placer (stepsOf (recordsAfter heading (now (text .entry))))) (now (out .entry)) r (now (out .exit)) ⌝ }
 {
+    let unit = heading.unit;
     walk_from(
         placer,
         text,
+        unit,
         sizes,
         heading.next,
         heading.records + 1,

@@ -7,6 +7,7 @@ use emath::Rect;
 use emath::Vec2;
 use placer::PassState;
 use placer::PlacerSettings;
+use records::SizeUnit;
 use records::records::next_record;
 use records::size_cache::cached_record;
 ghost use mathlib.Core.Path.{_≡_};
@@ -23,6 +24,7 @@ ghost use Rattle.sheet.specs.Implementation.Walks.{runOf, Walked, OnlySt
 // frame joins the plate.
 pub fn run(
     text: &[u8],
+    unit: SizeUnit,
     sizes: &[f32],
     from: usize,
     first: usize,
@@ -38,8 +40,8 @@ pub fn run(
 ) -> RunResult
     requires { ⌜ Ready placer state (now «prev_widths») (now «prev_heights») (now widths) (now heights) ⌝ }
     requires { ⌜ (from ≤ length (now text)) × (first + most ≤ 513) ⌝ }
-    requires { ⌜ OnlySteps (recordsFrom most (drop from (now text))) × (8 * widgets (recordsFrom most (drop from (now text))) ≤ length (now out)) × (length (now sizes) ≡ 1026) × AreCached most (drop from (now text)) (now sizes) first ⌝ }
-    ensures { λ r. ⌜ Walked spacing first (placerOf placer state (now («prev_widths» .entry)) (now («prev_heights» .entry)) (now (widths .entry)) (now (heights .entry))) (stepsOf (recordsFrom most (drop from (now (text .entry))))) (now (out .entry)) (runOf placer r (now («prev_widths» .entry)) (now («prev_heights» .entry)) (now (widths .exit)) (now (heights .exit))) (now (out .exit)) ⌝ }
+    requires { ⌜ OnlySteps (recordsFrom unit most (drop from (now text))) × (8 * widgets (recordsFrom unit most (drop from (now text))) ≤ length (now out)) × (length (now sizes) ≡ 1026) × AreCached unit most (drop from (now text)) (now sizes) first ⌝ }
+    ensures { λ r. ⌜ Walked spacing first (placerOf placer state (now («prev_widths» .entry)) (now («prev_heights» .entry)) (now (widths .entry)) (now (heights .entry))) (stepsOf (recordsFrom unit most (drop from (now (text .entry))))) (now (out .entry)) (runOf placer r (now («prev_widths» .entry)) (now («prev_heights» .entry)) (now (widths .exit)) (now (heights .exit))) (now (out .exit)) ⌝ }
 {
     let mut s = state;
     let mut at = from;
@@ -64,7 +66,7 @@ pub fn run(
             widths,
             heights,
             spacing,
-            cached_record(text, at, sizes, n),
+            cached_record(text, unit, at, sizes, n),
         );
         let number = m.number;
         let next = m.state;

@@ -6,6 +6,9 @@ use Prim.Native.Nat.{ℕ}
 abbrev pub H : ℕ
 H = 72
 
+abbrev pub M : ℕ
+M = 77
+
 abbrev pub G : ℕ
 G = 71
 

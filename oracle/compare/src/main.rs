@@ -65,6 +65,9 @@ const PARTS: &[Part] = &[
     #[cfg(feature = "placer")]
     sheet::passes::compare,
     sheet::writers::compare,
+    sheet::hundredths::compare,
+    #[cfg(feature = "placer")]
+    sheet::margins::compare,
     emath_ops::compare,
     emath_align::compare,
     emath_domain::compare,

@@ -15,10 +15,13 @@ pub mod fields;
 pub mod fixed;
 #[cfg(feature = "placer")]
 mod full;
+pub mod hundredths;
 #[cfg(feature = "placer")]
 mod listing;
 #[cfg(feature = "placer")]
 pub mod lists;
+#[cfg(feature = "placer")]
+pub mod margins;
 #[cfg(feature = "placer")]
 pub mod passes;
 #[cfg(feature = "placer")]

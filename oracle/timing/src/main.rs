@@ -68,7 +68,7 @@ fn number(x: Option<f64>) -> String {
 /// stands behind it.
 fn line(what: &str, ours: &str, [rust, checked, before]: [[String; 2]; 3]) {
     let width = 9;
-    print!("{what:33}{ours:>width$}{:>width$}{:>8}", rust[0], rust[1]);
+    print!("{what:41}{ours:>width$}{:>width$}{:>8}", rust[0], rust[1]);
     print!("{:>14}{:>8}", checked[0], checked[1]);
     if Rattle::TREES.len() > 1 {
         print!("{:>width$}{:>8}", before[0], before[1]);
@@ -87,11 +87,7 @@ fn show(what: &str, ours: &Times, others: [Option<&Times>; 3]) {
 /// All that is timed of a sheet takes turns.
 fn time(sheet: &Sheet) {
     let mut works = Vec::from_iter(in_rust(sheet).into_iter().chain(checked(sheet)));
-    works.extend(
-        Rattle::TREES
-            .iter()
-            .flat_map(|&tree| in_rattle(sheet, tree)),
-    );
+    works.extend(sheet.trees.iter().flat_map(|&tree| in_rattle(sheet, tree)));
     let times = times(works);
 
     let (rust, rest) = times.split_at(5);
@@ -115,7 +111,14 @@ fn main() {
         "Rattle",
         columns.map(|name| [name, "ratio"].map(String::from)),
     );
-    time(&Sheet::new("strip", sheets::strip(), false));
-    time(&Sheet::new("grid", sheets::grid(), true));
+    let (strip, grid) = (sheets::strip(), sheets::grid());
+    time(&Sheet::new("strip", strip.clone(), false));
+    time(&Sheet::new("grid", grid.clone(), true));
+    time(&Sheet::new(
+        "strip with M",
+        sheets::with_unit(&strip),
+        false,
+    ));
+    time(&Sheet::new("grid with M", sheets::with_unit(&grid), true));
     println!("(a) of the Rattle is not measured: it is (b) less the text alone");
 }

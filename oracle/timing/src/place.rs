@@ -215,6 +215,7 @@ pub fn pass<const CHECKED: bool>(
             Record::RowEnd => pass.row_end(),
             Record::ByLength(which, length) => pass.by_length(which, length),
             Record::Grid { .. } => pass.grid(*record, memory, sizing),
+            Record::Metric => Ok(()),
             Record::Heading { .. } => Err(1),
         };
         done.map_err(|number| (number, n))?;

@@ -22,6 +22,7 @@ pub enum Record {
         columns: u8,
         start_row: u8,
     },
+    Metric,
     Widget([f32; 2]),
     ByLength(ByLength, f32),
     RowEnd,
@@ -66,6 +67,11 @@ fn field(columns: [u8; COLUMNS]) -> Option<Option<i32>> {
     Some(Some(if minus { -n } else { n }))
 }
 
+/// 635 hundredths of a millimetre are 576 ticks; within the limit that fits.
+fn nearest_tick(hundredths: i32) -> i32 {
+    (576 * hundredths + 317 * hundredths.signum()) / 635
+}
+
 struct Fields<'a>(&'a [[u8; COLUMNS]]);
 
 impl Fields<'_> {
@@ -83,6 +89,17 @@ impl Fields<'_> {
 
     fn length(&self, at: usize) -> Option<f32> {
         self.length_or(at, None)
+    }
+
+    /// A side of a W, in hundredths of a millimetre where the sheet is `METRIC`.
+    fn side<const METRIC: bool>(&self, at: usize) -> Option<f32> {
+        if !METRIC {
+            return self.length(at);
+        }
+        match self.next(at)? {
+            Some(n) if n.abs() <= LIMIT_TICKS => Some(nearest_tick(n) as f32 * (1.0 / 32.0)),
+            _ => None,
+        }
     }
 
     fn within_or(&self, at: usize, least: i32, most: i32, blank: Option<u8>) -> Option<u8> {
@@ -126,7 +143,7 @@ fn fields(letter: u8) -> Option<usize> {
     Some(match letter {
         b'W' => 2,
         b'S' | b'R' | b'L' | b'K' | b'N' | b'T' => 1,
-        b'E' => 0,
+        b'E' | b'M' => 0,
         b'H' => 12,
         b'G' => 6,
         _ => return None,
@@ -134,7 +151,7 @@ fn fields(letter: u8) -> Option<usize> {
 }
 
 /// The record at the front of `text`, and what comes after it.
-fn record(text: &[u8]) -> Option<(Record, &[u8])> {
+fn record<const METRIC: bool>(text: &[u8]) -> Option<(Record, &[u8])> {
     let (&letter, rest) = text.split_first()?;
     let count = fields(letter)?;
     let (columns, rest) = rest.split_at_checked(COLUMNS * count)?;
@@ -145,7 +162,7 @@ fn record(text: &[u8]) -> Option<(Record, &[u8])> {
     let f = Fields(columns.as_chunks().0);
     let by_length = |which| Some(Record::ByLength(which, f.length(0)?));
     let record = match letter {
-        b'W' => Record::Widget([f.length(0)?, f.length(1)?]),
+        b'W' => Record::Widget([f.side::<METRIC>(0)?, f.side::<METRIC>(1)?]),
         b'E' => Record::RowEnd,
         b'S' => by_length(ByLength::AdvanceCursor)?,
         b'R' => by_length(ByLength::SetRowHeight)?,
@@ -154,13 +171,18 @@ fn record(text: &[u8]) -> Option<(Record, &[u8])> {
         b'N' => by_length(ByLength::SetMinWidth)?,
         b'T' => by_length(ByLength::SetMinHeight)?,
         b'H' => f.heading()?,
+        b'M' => Record::Metric,
         _ => f.grid()?,
     };
     Some((record, rest))
 }
 
-/// Fills `records`, whose room is used again; `room` is what is lent for the rectangles.
-pub fn parse(text: &[u8], room: usize, records: &mut Vec<Record>) -> Result<(), Fault> {
+/// Compiled for either unit, so that no W has to ask for it.
+fn parse_in<const METRIC: bool>(
+    text: &[u8],
+    room: usize,
+    records: &mut Vec<Record>,
+) -> Result<(), Fault> {
     records.clear();
     let (mut rest, mut widgets) = (text, 0);
     while records.is_empty() || !rest.is_empty() {
@@ -168,10 +190,11 @@ pub fn parse(text: &[u8], room: usize, records: &mut Vec<Record>) -> Result<(), 
         if n > MOST_RECORDS {
             return Err((2, n));
         }
-        let (record, after) = record(rest).ok_or((1, n))?;
+        let (record, after) = record::<METRIC>(rest).ok_or((1, n))?;
         let in_place = match record {
             Record::Heading { .. } => n == 1,
-            Record::Grid { .. } => n == 2,
+            Record::Metric => n == 2,
+            Record::Grid { .. } => n == 2 + usize::from(METRIC),
             _ => n != 1,
         };
         if !in_place {
@@ -185,4 +208,15 @@ pub fn parse(text: &[u8], room: usize, records: &mut Vec<Record>) -> Result<(), 
         return Err((3, 1));
     }
     Ok(())
+}
+
+/// Where the second record begins, if the first is an H.
+const SECOND: usize = 1 + 12 * COLUMNS + 1;
+
+/// Fills `records`, whose room is used again; `room` is what is lent for the rectangles.
+pub fn parse(text: &[u8], room: usize, records: &mut Vec<Record>) -> Result<(), Fault> {
+    match text.get(SECOND) {
+        Some(b'M') => parse_in::<true>(text, room, records),
+        _ => parse_in::<false>(text, room, records),
+    }
 }

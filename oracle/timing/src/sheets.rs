@@ -37,6 +37,12 @@ pub fn grid() -> Vec<u8> {
     lines.collect::<String>().into_bytes()
 }
 
+/// The same with M after H: the sizes are hundredths of a millimetre.
+pub fn with_unit(sheet: &[u8]) -> Vec<u8> {
+    let (heading, rest) = sheet.split_at(heading().len());
+    [heading, b"M\n", rest].concat()
+}
+
 /// The same with a fault in the last record: only the text is read.
 pub fn faulty(sheet: &[u8]) -> Vec<u8> {
     let mut text = sheet.to_vec();

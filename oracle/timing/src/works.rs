@@ -16,6 +16,8 @@ const SLICE: usize = 4_096;
 /// A sheet, and the memory of its first pass where it has a grid: what is timed is its second.
 pub struct Sheet {
     pub name: &'static str,
+    /// Those that accept it: an earlier one may not know each of its records.
+    pub trees: Vec<Rattle>,
     text: Vec<u8>,
     faulty: Vec<u8>,
     records: Vec<Record>,
@@ -33,6 +35,7 @@ impl Sheet {
         parse(&text, SLICE, &mut records).expect("a good sheet");
         let mut sheet = Self {
             name,
+            trees: vec![],
             faulty: faulty(&text),
             text,
             records,
@@ -45,7 +48,11 @@ impl Sheet {
         let mut list = Box::new([0; ROOM]);
         let length = print::<true>(&sheet.text, &mut vec![], &mut list);
         sheet.lines = lines(&list[..length]);
-        for &tree in Rattle::TREES {
+        sheet.trees = Rattle::TREES.to_vec();
+        sheet
+            .trees
+            .retain(|tree| tree.pass(&sheet.text, None, true, &mut lent()).is_ok());
+        for &tree in &sheet.trees {
             sheet.agree(tree, &list, length);
         }
         sheet

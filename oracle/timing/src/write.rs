@@ -75,7 +75,9 @@ fn ticks(length: f32) -> i32 {
 
 fn laid<const CHECKED: bool>(records: &[Record], slice: &mut [i32]) -> Result<(Laid, bool), Fault> {
     let first = pass::<CHECKED>(records, None, true, slice)?;
-    if !matches!(records.get(1), Some(Record::Grid { .. })) {
+    // After H, and M where there is one.
+    let mut heading = records.iter().take(3);
+    if !heading.any(|record| matches!(record, Record::Grid { .. })) {
         return Ok((first, false));
     }
     let second = pass::<CHECKED>(records, Some(&first.memory), false, slice)?;

@@ -5,7 +5,8 @@ use Prim.Native.Nat.{ℕ}
 use mathlib.Core.Path.{_≡_, refl}
 use mathlib.Core.Bool.{true, false}
 use mathlib.Core.List.{List, [], _∷_, _++_, map}
-use lib.IntN.{ℤ, pos, negsuc}
+use lib.IntN.{ℤ, pos, negsuc, _+ℤ_, _-ℤ_}
+use lib.ListN.{length}
 use Rattle.emath.specs.Rectangles as rectangles
 use Rattle.emath.specs.Domain as domain
 use Rattle.emath.specs.Refusals as refusals
@@ -25,6 +26,7 @@ use Rattle.placer.specs.Refusals as placer-refusals
 use Rattle.placer.specs.Operations as placer-operations
 use Rattle.text.specs.Fields as fields
 use Rattle.text.specs.Lines as lines
+use Rattle.records.specs.Units as units
 use Rattle.records.specs.Parts as parts
 use Rattle.records.specs.Records as records
 use Rattle.records.specs.Headings as headings
@@ -35,7 +37,9 @@ use Rattle.sheet.specs.Texts as texts
 use Rattle.sheet.specs.Slices as slices
 use Rattle.listing.specs.Lists as lists
 use lib.Ieee as ieee
-use Rattle.emath.specs.declared.Align.the-variants.{Center}
+use Rattle.records.specs.Conversions as conversions
+use Rattle.records.specs.Controls as sheet-controls
+use Rattle.emath.specs.declared.Align.the-variants.{Min, Center}
 use Rattle.emath.specs.Steps.{val}
 use Rattle.grid.specs.Entries.{zeros}
 use Rattle.grid.specs.Memories.{emptyMemory, heights}
@@ -48,7 +52,11 @@ use Rattle.sheet.specs.Ticks.{ticks, inTicks, width, height}
 use Rattle.price_clause.specs.PriceClause.{NoLess}
 use Rattle.price_clause.specs.Cases as cases
 use Rattle.price_clause.specs.Cases.{Case, heading, grid, table, allHold}
-use Rattle.records.specs.Writers.{H, W, E}
+use Rattle.records.specs.Writers.{H, M, W, S, E}
+use Rattle.records.specs.Conversions.{stepParts, hundredthParts, total}
+use Rattle.records.specs.Controls.{onlyControls, sizesIn}
+use Rattle.records.specs.declared.SizeUnit.the-variants.{Hundredths}
+use Rattle.price_clause.specs.UnitClause.{spacings, widths, Margin}
 use Rattle.price_clause.proofs.PriceClause.{price-clause}
 use Rattle.price_clause.proofs.OfCases.CaseTests.{found-as-expected}
 
@@ -86,6 +94,25 @@ laid text = pass 5 (sheetIn text) false emptyMemory true
 
 abbrev pub settled : List ℕ → Outcome
 settled text = passes 5 (sheetIn text) emptyMemory 1
+
+-- ---- strips in hundredths of a millimetre
+-- a strip with wrap or without, with this much between two controls
+abbrev pub metric : ℤ → ℤ → List ℕ → List ℕ
+metric wrap gap after = heading (pos 0) wrap (pos 0) (pos 640) (pos 3200) gap (pos 0) ++ (M ++ after)
+
+abbrev pub threeControls : ℤ → List ℕ
+threeControls w = W w (pos 635) ++ (E ++ (W w (pos 635) ++ W w (pos 635)))
+
+-- the margin, of the plate that a text has
+abbrev pub MarginOf : List ℕ → Type 0
+MarginOf text = Margin 5 (width (inTicks 5 (laid text .plate))) (ticks 5 (sheetIn text .heading .spacing .x)) (widths (sizesIn text))
+
+-- both sides of it: the parts of the plate without its spacings, and those of the fields
+abbrev pub platePart : List ℕ → ℤ
+platePart text = stepParts (width (inTicks 5 (laid text .plate))) -ℤ stepParts (spacings (ticks 5 (sheetIn text .heading .spacing .x)) (length (sizesIn text)))
+
+abbrev pub fieldPart : List ℕ → ℤ
+fieldPart text = hundredthParts 5 (total (widths (sizesIn text)))
 
 -- accepted, grown from the first to the second
 pub record Pair (a b : List ℕ) : Type 0 where
@@ -137,11 +164,25 @@ pub record Computed : Type 0 where
   -- direction 1: a wider control starts further left
   pub right-to-left : Pair (rightToLeft (pos 10)) (rightToLeft (pos 20))
   pub further-left : (firstLeft (laid (rightToLeft (pos 10))) ≡ pos 6390) × (firstLeft (laid (rightToLeft (pos 20))) ≡ pos 6380)
+  -- the margin can be met, and is reached: three controls of 522 hundredths each, a row end among them and 32 ticks between two, are 951
+  -- parts short; three of 113 are as much over
+  pub metric-accepted : (laid (metric (pos 0) (pos 32) (threeControls (pos 522))) .number ≡ 0) × (laid (metric (pos 0) (pos 32) (threeControls (pos 113))) .number ≡ 0)
+  pub metric-strip : Strip (sheetIn (metric (pos 0) (pos 32) (threeControls (pos 522))))
+  pub metric-spacing : NoNegativeSpacing (sheetIn (metric (pos 0) (pos 32) (threeControls (pos 522))))
+  pub metric-controls : (sheetIn (metric (pos 0) (pos 32) (threeControls (pos 522))) .heading .unit ≡ Hundredths) × (onlyControls (sheetIn (metric (pos 0) (pos 32) (threeControls (pos 522))) .steps) ≡ true)
+  pub margin-short : platePart (metric (pos 0) (pos 32) (threeControls (pos 522))) +ℤ pos 951 ≡ fieldPart (metric (pos 0) (pos 32) (threeControls (pos 522)))
+  pub margin-over : platePart (metric (pos 0) (pos 32) (threeControls (pos 113))) ≡ fieldPart (metric (pos 0) (pos 32) (threeControls (pos 113))) +ℤ pos 951
+  -- and why each condition is there: negative spacing, an S, wrap, a sheet without M
+  pub overlap-accepted : laid (metric (pos 0) (negsuc 9) (W (pos 635) (pos 1) ++ W (pos 0) (pos 1))) .number ≡ 0
+  pub overlap-beyond : MarginOf (metric (pos 0) (negsuc 9) (W (pos 635) (pos 1) ++ W (pos 0) (pos 1))) → ⊥
+  pub space-beyond : MarginOf (metric (pos 0) (pos 0) (W (pos 635) (pos 1) ++ (S (pos 10) ++ W (pos 635) (pos 1)))) → ⊥
+  pub wrap-beyond : MarginOf (metric (pos 1) (pos 0) (W (pos 635) (pos 1) ++ W (pos 635) (pos 1))) → ⊥
+  pub ticks-beyond : MarginOf (strip (pos 640) (pos 480)) → ⊥
   -- a first pass with a memory: the second does not give back what it was given, 6 ticks and then 5
   pub unsettled : (rowsOf (given acrossZero tenTall) ≡ pos 6 ∷ []) × (rowsOf (givenThen acrossZero tenTall) ≡ pos 5 ∷ [])
 
 pub computed : Computed
-unfolding rectangles.minF rectangles.maxF rectangles.translate rectangles.intersect rectangles.union rectangles.extendWithX rectangles.extendWithY rectangles.intersects rectangles.centred rectangles.alignedTo rectangles.alignOn rectangles.alignWithin rectangles.roundF rectangles.roundBy rectangles.roundRect domain.finite domain.within domain.bothOf domain.edgesOf domain.negative domain.insideOut refusals.lesser refusals.least refusals.orElse refusals.lengthFault refusals.pairFault refusals.edgesFault refusals.extentFault refusals.sizeFault refusals.rectFault refusals.outside steps.val directions.isHorizontal layouts.isRightToLeft layouts.isCenter layouts.isMax layouts.preferRightToLeft layouts.placement layouts.horizontalAlign layouts.verticalAlign layouts.align2 layouts.horizontalJustify layouts.verticalJustify regions.expandToIncludeRect regions.expandToIncludeX regions.expandToIncludeY layout-rules.alignSizeWithinRect layout-rules.initialCursor layout-rules.fromCursor layout-rules.notNegative layout-rules.notNegativeRect layout-rules.availableFromCursorMaxRect layout-rules.availableRectBeforeWrap layout-rules.availableSize layout-rules.overflows layout-rules.newRow layout-rules.newColumn layout-rules.newCursor layout-rules.reaching layout-rules.newRegion layout-rules.fillsWidth layout-rules.fillsHeight layout-rules.frameWidth layout-rules.frameHeight layout-rules.frameAlign2 layout-rules.movedDown layout-rules.frameRect layout-rules.nextFrameIgnoreWrap layout-rules.wraps layout-rules.nextFrame layout-rules.raised layout-rules.justifyAndAlign layout-rules.nextWidgetSpaceIgnoreWrapJustify layout-rules.nextWidgetPosition layout-rules.regionFromMaxRect layout-rules.advanceCursor layout-rules.staysInRow layout-rules.rowStarted layout-rules.grownAcross layout-rules.rowFor layout-rules.pastWidget layout-rules.advanceAfterRects layout-rules.nextRow layout-rules.endRow layout-rules.setRowHeight layout-refusals.zeroIfOpen layout-refusals.closed layout-refusals.cursorFault layout-refusals.regionFault layout-refusals.rectAnswer layout-refusals.posAnswer layout-refusals.sizeAnswer layout-refusals.regionAnswer layout-refusals.cursorAnswer layout-refusals.rectNumber layout-refusals.rectValue layout-refusals.posNumber layout-refusals.posValue layout-refusals.sizeNumber layout-refusals.sizeValue entries.entry entries.cleared entries.raised entries.totalFrom entries.sameEntries entries.entriesFault entries.zeros memories.capped memories.raisedCount memories.setMinColWidth memories.setMinRowHeight memories.colWidth memories.rowHeight memories.fullWidth memories.sameMemory grids.knownMemory grids.newGrid grids.prevColWidth grids.prevRowHeight grids.lastWidth grids.otherWidth grids.cellWidth grids.cellHeight grids.availableRect grids.nextWidth grids.nextCell grids.alignSizeWithinRect grids.noted grids.advanced grids.advance grids.rowEnded grids.endRow grids.save grid-refusals.memoryFault grid-refusals.maxCellFault grid-refusals.gridFault grid-refusals.fitsGrid grid-refusals.directionFault grid-refusals.movedFault grid-refusals.memoryAnswer grid-refusals.gridAnswer grid-refusals.movedAnswer grid-refusals.savedAnswer grid-refusals.lengthAnswer grid-refusals.entryAnswer grid-refusals.lengthNumber grid-refusals.lengthValue grid-operations.checkedSetMinColWidth grid-operations.checkedSetMinRowHeight grid-operations.checkedColWidth grid-operations.checkedRowHeight grid-operations.checkedFullWidth grid-operations.checkedNew grid-operations.checkedPrevColWidth grid-operations.checkedPrevRowHeight grid-operations.checkedAvailableRect grid-operations.checkedNextCell grid-operations.checkedAlignSizeWithinRect grid-operations.checkedAdvance grid-operations.checkedEndRow grid-operations.checkedSave placer-rules.newPlacer placer-rules.saveGrid placer-rules.forceSetMinRect placer-rules.setCursor placer-rules.alignSizeWithinRect placer-rules.available placer-rules.availableRectBeforeWrap placer-rules.availableSize placer-rules.nextSpace placer-rules.nextWidgetPosition placer-rules.justifyAndAlign placer-rules.advanceCursor placer-rules.expandToIncludeRect placer-rules.expandToIncludeX placer-rules.expandToIncludeY placer-rules.movedPast placer-rules.advanceAfterRects placer-rules.endRow placer-rules.setRowHeight placer-rules.nextWidgetSpaceIgnoreWrapJustify placer-rules.limitedAcross placer-rules.limitedDown placer-rules.setMaxWidth placer-rules.setMaxHeight placer-rules.grownAcross placer-rules.grownDown placer-rules.setMinWidth placer-rules.setMinHeight placer-refusals.gridPart placer-refusals.placerFault placer-refusals.advanceFault placer-refusals.endRowFault placer-refusals.placerAnswer placer-refusals.changedPlacer placer-operations.checkedNew placer-operations.checkedSetGrid placer-operations.checkedSaveGrid placer-operations.checkedForceSetMinRect placer-operations.checkedSetCursor placer-operations.checkedAlignSizeWithinRect placer-operations.checkedAvailableRectBeforeWrap placer-operations.checkedAvailableSize placer-operations.checkedNextSpace placer-operations.checkedNextWidgetPosition placer-operations.checkedJustifyAndAlign placer-operations.checkedAdvanceCursor placer-operations.checkedAdvanceAfterRects placer-operations.checkedEndRow placer-operations.checkedSetRowHeight placer-operations.checkedExpandToIncludeRect placer-operations.checkedExpandToIncludeX placer-operations.checkedExpandToIncludeY placer-operations.checkedNextWidgetSpaceIgnoreWrapJustify placer-operations.checkedSetMaxWidth placer-operations.checkedSetMaxHeight placer-operations.checkedSetMinWidth placer-operations.checkedSetMinHeight fields.column fields.columns fields.hasText fields.grow fields.digitsFrom fields.same fields.blank fields.numberOf fields.field fields.fieldAt fields.writtenAt lines.texts lines.haveTexts lines.line lines.lineAt parts.ends parts.points parts.inPoints parts.lengthIn parts.isLength parts.lengthValue parts.isMaximum parts.maximumValue parts.countIn parts.isCount parts.natural parts.countValue records.pairFits records.pairIn records.directionOf records.alignOf records.layoutFits records.layoutIn records.rectIn records.headingFits records.maximaFit records.maximaIn records.isColumns records.optionsIn records.gridFits records.stepRecord records.widgetRecord records.singleRecord records.recordOf records.recordAt records.fieldCount records.nextAt sheets.recordsFrom sheets.after sheets.wrongFrom sheets.misplaced sheets.widgetStep sheets.widget sheets.widgets sheets.sheetFault sheets.checked pass-rules.widgetFault pass-rules.widgetStep pass-rules.stepped pass-rules.followed pass-rules.runFrom pass-rules.headed pass-rules.gridOf pass-rules.gridSet pass-rules.around pass-rules.plateOf pass-rules.remembered pass-rules.outcomeOf pass-rules.begun pass-rules.ranWith pass-rules.pass passes-rules.passes slices.laid slices.afterCheck slices.written lists.printed lists.settledFrom lists.settled lists.widgetLines lists.entryLines lists.memoryLines lists.acceptedLines lists.refusalLine lists.outcomeLines lists.answered lists.listOf texts.stepsOf headings.hasGrid headings.headingIn headings.headingFault ieee.span ieee.climb ieee.size ieee.odd ieee.units ieee.round ieee.neg ieee.sum ieee.add ieee.sub ieee.mul ieee.div ieee.lt ieee.eq ieee.le ieee.ofInt ieee.toUnsigned ieee.toSigned ieee.ofFields ieee.ofBits ieee.ne cases.times cases.sameAll cases.twiceEach cases.allHold
+unfolding rectangles.minF rectangles.maxF rectangles.translate rectangles.intersect rectangles.union rectangles.extendWithX rectangles.extendWithY rectangles.intersects rectangles.centred rectangles.alignedTo rectangles.alignOn rectangles.alignWithin rectangles.roundF rectangles.roundBy rectangles.roundRect domain.finite domain.within domain.bothOf domain.edgesOf domain.negative domain.insideOut refusals.lesser refusals.least refusals.orElse refusals.lengthFault refusals.pairFault refusals.edgesFault refusals.extentFault refusals.sizeFault refusals.rectFault refusals.outside steps.val directions.isHorizontal layouts.isRightToLeft layouts.isCenter layouts.isMax layouts.preferRightToLeft layouts.placement layouts.horizontalAlign layouts.verticalAlign layouts.align2 layouts.horizontalJustify layouts.verticalJustify regions.expandToIncludeRect regions.expandToIncludeX regions.expandToIncludeY layout-rules.alignSizeWithinRect layout-rules.initialCursor layout-rules.fromCursor layout-rules.notNegative layout-rules.notNegativeRect layout-rules.availableFromCursorMaxRect layout-rules.availableRectBeforeWrap layout-rules.availableSize layout-rules.overflows layout-rules.newRow layout-rules.newColumn layout-rules.newCursor layout-rules.reaching layout-rules.newRegion layout-rules.fillsWidth layout-rules.fillsHeight layout-rules.frameWidth layout-rules.frameHeight layout-rules.frameAlign2 layout-rules.movedDown layout-rules.frameRect layout-rules.nextFrameIgnoreWrap layout-rules.wraps layout-rules.nextFrame layout-rules.raised layout-rules.justifyAndAlign layout-rules.nextWidgetSpaceIgnoreWrapJustify layout-rules.nextWidgetPosition layout-rules.regionFromMaxRect layout-rules.advanceCursor layout-rules.staysInRow layout-rules.rowStarted layout-rules.grownAcross layout-rules.rowFor layout-rules.pastWidget layout-rules.advanceAfterRects layout-rules.nextRow layout-rules.endRow layout-rules.setRowHeight layout-refusals.zeroIfOpen layout-refusals.closed layout-refusals.cursorFault layout-refusals.regionFault layout-refusals.rectAnswer layout-refusals.posAnswer layout-refusals.sizeAnswer layout-refusals.regionAnswer layout-refusals.cursorAnswer layout-refusals.rectNumber layout-refusals.rectValue layout-refusals.posNumber layout-refusals.posValue layout-refusals.sizeNumber layout-refusals.sizeValue entries.entry entries.cleared entries.raised entries.totalFrom entries.sameEntries entries.entriesFault entries.zeros memories.capped memories.raisedCount memories.setMinColWidth memories.setMinRowHeight memories.colWidth memories.rowHeight memories.fullWidth memories.sameMemory grids.knownMemory grids.newGrid grids.prevColWidth grids.prevRowHeight grids.lastWidth grids.otherWidth grids.cellWidth grids.cellHeight grids.availableRect grids.nextWidth grids.nextCell grids.alignSizeWithinRect grids.noted grids.advanced grids.advance grids.rowEnded grids.endRow grids.save grid-refusals.memoryFault grid-refusals.maxCellFault grid-refusals.gridFault grid-refusals.fitsGrid grid-refusals.directionFault grid-refusals.movedFault grid-refusals.memoryAnswer grid-refusals.gridAnswer grid-refusals.movedAnswer grid-refusals.savedAnswer grid-refusals.lengthAnswer grid-refusals.entryAnswer grid-refusals.lengthNumber grid-refusals.lengthValue grid-operations.checkedSetMinColWidth grid-operations.checkedSetMinRowHeight grid-operations.checkedColWidth grid-operations.checkedRowHeight grid-operations.checkedFullWidth grid-operations.checkedNew grid-operations.checkedPrevColWidth grid-operations.checkedPrevRowHeight grid-operations.checkedAvailableRect grid-operations.checkedNextCell grid-operations.checkedAlignSizeWithinRect grid-operations.checkedAdvance grid-operations.checkedEndRow grid-operations.checkedSave placer-rules.newPlacer placer-rules.saveGrid placer-rules.forceSetMinRect placer-rules.setCursor placer-rules.alignSizeWithinRect placer-rules.available placer-rules.availableRectBeforeWrap placer-rules.availableSize placer-rules.nextSpace placer-rules.nextWidgetPosition placer-rules.justifyAndAlign placer-rules.advanceCursor placer-rules.expandToIncludeRect placer-rules.expandToIncludeX placer-rules.expandToIncludeY placer-rules.movedPast placer-rules.advanceAfterRects placer-rules.endRow placer-rules.setRowHeight placer-rules.nextWidgetSpaceIgnoreWrapJustify placer-rules.limitedAcross placer-rules.limitedDown placer-rules.setMaxWidth placer-rules.setMaxHeight placer-rules.grownAcross placer-rules.grownDown placer-rules.setMinWidth placer-rules.setMinHeight placer-refusals.gridPart placer-refusals.placerFault placer-refusals.advanceFault placer-refusals.endRowFault placer-refusals.placerAnswer placer-refusals.changedPlacer placer-operations.checkedNew placer-operations.checkedSetGrid placer-operations.checkedSaveGrid placer-operations.checkedForceSetMinRect placer-operations.checkedSetCursor placer-operations.checkedAlignSizeWithinRect placer-operations.checkedAvailableRectBeforeWrap placer-operations.checkedAvailableSize placer-operations.checkedNextSpace placer-operations.checkedNextWidgetPosition placer-operations.checkedJustifyAndAlign placer-operations.checkedAdvanceCursor placer-operations.checkedAdvanceAfterRects placer-operations.checkedEndRow placer-operations.checkedSetRowHeight placer-operations.checkedExpandToIncludeRect placer-operations.checkedExpandToIncludeX placer-operations.checkedExpandToIncludeY placer-operations.checkedNextWidgetSpaceIgnoreWrapJustify placer-operations.checkedSetMaxWidth placer-operations.checkedSetMaxHeight placer-operations.checkedSetMinWidth placer-operations.checkedSetMinHeight fields.column fields.columns fields.hasText fields.grow fields.digitsFrom fields.same fields.blank fields.numberOf fields.field fields.fieldAt fields.writtenAt lines.texts lines.haveTexts lines.line lines.lineAt parts.ends parts.points parts.lengthIn parts.isLength parts.lengthValue parts.measured parts.sizeIn units.nearest units.fromHundredths units.inSteps parts.isMaximum parts.maximumValue parts.countIn parts.isCount parts.natural parts.countValue records.pairFits records.pairIn records.directionOf records.alignOf records.layoutFits records.layoutIn records.rectIn records.headingFits records.maximaFit records.maximaIn records.isColumns records.optionsIn records.gridFits records.stepRecord records.widgetRecord records.singleRecord records.recordOf records.recordAt records.fieldCount records.nextAt sheets.recordsFrom sheets.after sheets.wrongFrom sheets.misplaced sheets.widgetStep sheets.widget sheets.widgets sheets.sheetFault sheets.checked conversions.total sheet-controls.onlyControls sheet-controls.numberIn sheet-controls.sizeOf sheet-controls.sizesFrom pass-rules.widgetFault pass-rules.widgetStep pass-rules.stepped pass-rules.followed pass-rules.runFrom pass-rules.headed pass-rules.gridOf pass-rules.gridSet pass-rules.around pass-rules.plateOf pass-rules.remembered pass-rules.outcomeOf pass-rules.begun pass-rules.ranWith pass-rules.pass passes-rules.passes slices.laid slices.afterCheck slices.written lists.printed lists.settledFrom lists.settled lists.widgetLines lists.entryLines lists.memoryLines lists.acceptedLines lists.refusalLine lists.outcomeLines lists.answered lists.listOf texts.stepsOf headings.stands headings.past headings.hasUnit headings.unitIn headings.hasGrid headings.unitFits headings.optionsFit headings.headingIn headings.headingFault ieee.span ieee.climb ieee.size ieee.odd ieee.units ieee.round ieee.neg ieee.sum ieee.add ieee.sub ieee.mul ieee.div ieee.lt ieee.eq ieee.le ieee.ofInt ieee.toUnsigned ieee.toSigned ieee.ofFields ieee.ofBits ieee.ne cases.times cases.sameAll cases.twiceEach cases.allHold
 computed = record {
   cases-hold-all = refl;
   strips = record { first = refl; second = refl; grown = record { heading = refl; steps = Grown.control refl refl (Grown.control refl refl Grown.none) } };
@@ -158,6 +199,17 @@ computed = record {
   wrapped-narrower = (refl, refl);
   right-to-left = record { first = refl; second = refl; grown = record { heading = refl; steps = Grown.control refl refl Grown.none } };
   further-left = (refl, refl);
+  metric-accepted = (refl, refl);
+  metric-strip = record { align = Min; is = refl; no-grid = refl };
+  metric-spacing = record { across = refl; down = refl };
+  metric-controls = (refl, refl);
+  margin-short = refl;
+  margin-over = refl;
+  overlap-accepted = refl;
+  overlap-beyond = λ m. m .over .le;
+  space-beyond = λ m. m .over .le;
+  wrap-beyond = λ m. m .under .le;
+  ticks-beyond = λ m. m .over .le;
   unsettled = (refl, refl);
 }
 

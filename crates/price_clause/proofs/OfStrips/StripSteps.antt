@@ -136,6 +136,7 @@ module _ (k : ℕ) (l : k ≤ 6) (a : Align) (o : Place) (O : Sound o) (sp : Vec
   record Passed : Type 0 where
     right : Few (o .x +ℤ w)
     bottom : Few (o .top +ℤ h)
+    wide : pos 0 ≤ᶻ w
     placer : step .placer ≡ placerAt k a (pastControl o s w h)
     sound : Sound (pastControl o s w h)
 
@@ -149,7 +150,8 @@ module _ (k : ℕ) (l : k ≤ 6) (a : Align) (o : Place) (O : Sound o) (sp : Vec
       let Y = few k (omega arith) (o .top +ℤ h) (omega (arith, sum (o .top) h)) (d .bottom) in
       let same : pastCell sp p c ≡ placerAt k a (pastControl o s w h) = rw (frame-is, widget-is X Y) (past-is X Y) in
       let N = next-within X Y (rw same at (A .after)) in
-      record { right = X; bottom = Y; placer = A .placer ∙ same; sound = past-sound X Y P (not-narrow k (omega arith) w h W (A .size)) N }
+      let wide = not-narrow k (omega arith) w h W (A .size) in
+      record { right = X; bottom = Y; wide = wide; placer = A .placer ∙ same; sound = past-sound X Y P wide N }
 
 -- ---- from a W or an E on: r is what the records after it give from the place q, after its own rectangles
 pub record Goes (k : ℕ) (a : Align) (sp : Vec2) (n : ℕ) (q : Place) (own : List Cell) (after : List Step) (r : Ran) : Type 0 where
@@ -161,6 +163,7 @@ pub record ControlGoes (k : ℕ) (a : Align) (sp : Vec2) (s : ℤ) (n : ℕ) (o 
   pub frame : cell .frame ≡ rectIn k (o .x) (o .top) (o .x +ℤ w) (o .top +ℤ h)
   pub right : Few (o .x +ℤ w)
   pub bottom : Few (o .top +ℤ h)
+  pub wide : pos 0 ≤ᶻ w
   pub sound : Sound (pastControl o s w h)
   pub goes : Goes k a sp n (pastControl o s w h) (cell ∷ []) after r
 
@@ -191,7 +194,7 @@ module _ (k : ℕ) (a : Align) (sp : Vec2) (n : ℕ) (o : Place) (after : List S
         let c = cellOf k sp (placerAt k a o) (sizeIn k w h) in
         let t = widgetStep sp (placerAt k a o) (sizeIn k w h) c in
         let d = passed k l a o O sp s w h gap S W H some (going n t (runFrom k sp (n + 1) (t .placer) after) e .this) in
-        record { cell = c; frame = frame-is k l a o O sp s w h gap S W H; right = d .right; bottom = d .bottom; sound = d .sound; goes = goes-on (pastControl o s w h) t (d .placer) e }
+        record { cell = c; frame = frame-is k l a o O sp s w h gap S W H; right = d .right; bottom = d .bottom; wide = d .wide; sound = d .sound; goes = goes-on (pastControl o s w h) t (d .placer) e }
 
     in-floats : (w h : Float) (x y : ℤ) → w ≡ val k x → h ≡ val k y → Few x → Few y → runFrom k sp n (placerAt k a o) (Widget w h ∷ after) .number ≡ 0
         → ControlGoes k a sp s n o x y after (runFrom k sp n (placerAt k a o) (Widget w h ∷ after))

@@ -35,10 +35,10 @@ use Rattle.price_clause.proofs.OfStrips.StripSteps.{pastControl, Goes, 
 
 -- ---- rectangles in steps, read in ticks
 module _ (k : ℕ) (l : k ≤ 7) where
-  ticks-is : (z : ℤ) → Few z → ticks k (val k z) ≡ z
+  pub ticks-is : (z : ℤ) → Few z → ticks k (val k z) ≡ z
   ticks-is z Z = points-to-steps k (omega arith) z (omega arith) .1
 
-  ticks-rect : (left top right bottom : ℤ) → Few left → Few top → Few right → Few bottom → inTicks k (rectIn k left top right bottom) ≡ record { left = left; top = top; right = right; bottom = bottom }
+  pub ticks-rect : (left top right bottom : ℤ) → Few left → Few top → Few right → Few bottom → inTicks k (rectIn k left top right bottom) ≡ record { left = left; top = top; right = right; bottom = bottom }
   ticks-rect left top right bottom L Y R B = rw (ticks-is left L, ticks-is top Y, ticks-is right R, ticks-is bottom B)
 
 -- ---- two strips, the second at least as far on

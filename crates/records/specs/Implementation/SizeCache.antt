@@ -11,6 +11,7 @@ use Rattle.records.specs.declared.Step.{Step}
 use Rattle.records.specs.declared.Step.the-variants.{Widget, Space, RowHeight, MaxWidth, MaxHeight, MinWidth, MinHeight, RowEnd}
 use Rattle.records.specs.declared.Record.{Record}
 use Rattle.records.specs.declared.Record.the-variants.{Step as Steps, Wrong}
+use Rattle.records.specs.declared.SizeUnit.{SizeUnit}
 use Rattle.records.specs.Parts.{letter}
 use Rattle.records.specs.Records.{recordOf, rest}
 use Rattle.records.specs.Headings.{headingIn, headingFault}
@@ -42,18 +43,18 @@ unfoldable pub cachedBy : List ℕ → List Float → List Float
 cachedBy s ss = cond (eqb (headingFault s) 0) (cachedFrom (headingIn s .records + 1) (records s) ss) ss
 
 -- where record n, at the front of the text, is a W, its places hold its size
-abbrev pub IsCached : List ℕ → List Float → ℕ → Type 0
-IsCached s ss n = letter s ≡ letters.W → recordOf s ≡ Steps (Widget (getD ss n nan) (getD ss (513 + n) nan))
+abbrev pub IsCached : SizeUnit → List ℕ → List Float → ℕ → Type 0
+IsCached u s ss n = letter s ≡ letters.W → recordOf u s ≡ Steps (Widget (getD ss n nan) (getD ss (513 + n) nan))
 
 -- the same of each of at most `left` records from there on
-unfoldable pub AreCached : ℕ → List ℕ → List Float → ℕ → Type 0
-AreCached zero s ss n = Unit {0}
-AreCached (suc left) [] ss n = Unit {0}
-AreCached (suc left) (b ∷ s) ss n = IsCached (b ∷ s) ss n × AreCached left (rest (b ∷ s)) ss (n + 1)
+unfoldable pub AreCached : SizeUnit → ℕ → List ℕ → List Float → ℕ → Type 0
+AreCached u zero s ss n = Unit {0}
+AreCached u (suc left) [] ss n = Unit {0}
+AreCached u (suc left) (b ∷ s) ss n = IsCached u (b ∷ s) ss n × AreCached u left (rest (b ∷ s)) ss (n + 1)
 
 -- the same of each record of a text after its heading
 abbrev pub CachedIn : List ℕ → List Float → Type 0
-CachedIn s ss = AreCached (stepsLeft s) (drop (headingIn s .next) s) ss (headingIn s .records + 1)
+CachedIn s ss = AreCached (headingIn s .unit) (stepsLeft s) (drop (headingIn s .next) s) ss (headingIn s .records + 1)
 
 -- whether a record is a step
 unfoldable pub isStep : Record → Bool

@@ -79,7 +79,7 @@ pub data OnlySteps : List Record → Type 0 where
 
 -- the records after a heading
 abbrev pub recordsAfter : Heading → List ℕ → List Record
-recordsAfter h text = recordsFrom (mostRecords - h .records) (drop (h .next) text)
+recordsAfter h text = recordsFrom (h .unit) (mostRecords - h .records) (drop (h .next) text)
 
 abbrev pub sheetAfter : Heading → List ℕ → Sheet
 sheetAfter h text = record { heading = h; steps = stepsOf (recordsAfter h text) }
@@ -91,7 +91,7 @@ pub record Room (h : Heading) (text : List ℕ) (room : ℕ) (sizes : List Float
   pub only : OnlySteps (recordsAfter h text)
   pub fits : 8 * widgets (recordsAfter h text) ≤ room
   pub places : length sizes ≡ 1026
-  pub cached : AreCached (mostRecords - h .records) (drop (h .next) text) sizes (h .records + 1)
+  pub cached : AreCached (h .unit) (mostRecords - h .records) (drop (h .next) text) sizes (h .records + 1)
 
 -- a text whose check was accepted before
 pub record Known (text : List ℕ) (room : ℕ) (sizes : List Float) : Type 0 where

@@ -46,18 +46,19 @@ impl Same for FieldRead {
 }
 
 /// The record at fault; or 0, max_rect's edges, the spacings and the cells, the layout's fields,
-/// whether there is a grid, its columns and start row, the heading's records and where it ends.
+/// whether there is a grid, its columns and start row, the heading's records and where it ends, and
+/// the unit of a W.
 pub struct HeadingRead {
     pub fault: usize,
     pub lengths: [f32; 10],
-    pub counts: [usize; 11],
+    pub counts: [usize; 12],
 }
 
 impl HeadingRead {
     pub const UNTOUCHED: Self = Self {
         fault: UNTOUCHED_COUNT,
         lengths: [UNTOUCHED; 10],
-        counts: [UNTOUCHED_COUNT; 11],
+        counts: [UNTOUCHED_COUNT; 12],
     };
 }
 
@@ -81,8 +82,9 @@ impl From<Result<Heading, usize>> for HeadingRead {
         read.lengths[6..8].copy_from_slice(&h.min_cell);
         read.lengths[8..].copy_from_slice(&h.max_cell);
         read.counts[..6].copy_from_slice(&h.layout);
-        let grid = usize::from(h.grid);
-        read.counts[6..].copy_from_slice(&[grid, h.columns, h.start_row, h.records, h.next]);
+        let (grid, unit) = (usize::from(h.grid), h.unit as usize);
+        let rest = [grid, h.columns, h.start_row, h.records, h.next, unit];
+        read.counts[6..].copy_from_slice(&rest);
         read
     }
 }
@@ -112,7 +114,7 @@ impl RecordRead {
         lengths: [UNTOUCHED; 2],
     };
 
-    fn of(kind: u8, lengths: &[f32]) -> Self {
+    pub fn of(kind: u8, lengths: &[f32]) -> Self {
         let mut read = Self::UNTOUCHED;
         read.kind = kind;
         read.lengths[..lengths.len()].copy_from_slice(lengths);
@@ -124,7 +126,9 @@ impl RecordRead {
 impl From<Option<Record>> for RecordRead {
     fn from(record: Option<Record>) -> Self {
         match record {
-            None | Some(Record::Heading { .. } | Record::Grid { .. }) => Self::of(0, &[]),
+            None | Some(Record::Heading { .. } | Record::Metric | Record::Grid { .. }) => {
+                Self::of(0, &[])
+            }
             Some(Record::Widget(size)) => Self::of(1, &size),
             Some(Record::Space(amount)) => Self::of(2, &[amount]),
             Some(Record::RowHeight(height)) => Self::of(3, &[height]),

@@ -2,9 +2,11 @@
 //! them. No reference made them.
 
 mod corners;
+mod metric;
 mod plates;
 
 use self::corners::corners;
+use self::metric::metric;
 use self::plates::plates;
 use super::answers::Bytes;
 use super::listing::list;
@@ -210,10 +212,17 @@ fn accepted() -> Vec<Case> {
 }
 
 pub fn cases() -> Vec<Case> {
-    [settled(), refused(), accepted(), corners(), plates()]
-        .into_iter()
-        .flatten()
-        .collect()
+    [
+        settled(),
+        refused(),
+        accepted(),
+        corners(),
+        plates(),
+        metric(),
+    ]
+    .into_iter()
+    .flatten()
+    .collect()
 }
 
 /// The reference beside them.

@@ -3,7 +3,7 @@
 use std::cell::Cell;
 
 use super::damage::{Fate, Hit, KINDS, Kind};
-use super::reference::{MOST_RECORDS, PLACES, lines, record_at};
+use super::reference::{MOST_RECORDS, PLACES, Unit, grid_line, lines, record_at, unit};
 use super::texts::FIELDS;
 use crate::tally::{Tally, say};
 
@@ -70,7 +70,7 @@ impl Damaged {
     }
 }
 
-const CORNERS: [&str; 12] = [
+const CORNERS: [&str; 19] = [
     "512 records accepted",
     "513 records or more, all good",
     "a fault in record 512 and more after it: 1",
@@ -83,6 +83,13 @@ const CORNERS: [&str; 12] = [
     "too few places, and bytes after 512 records: 2",
     "a sheet with G accepted",
     "a sheet without G accepted",
+    "a sheet with M and G accepted",
+    "a sheet with M and without G accepted",
+    "512 records, M among them, accepted",
+    "512 good records, M among them, then more: 2",
+    "a fault at M: 1",
+    "a fault at the G after M: 1",
+    "M after M: 1",
 ];
 
 pub struct Counts {
@@ -128,11 +135,13 @@ impl Counts {
         let after = number == 2 || at_last;
         let tail = after.then(|| &text[lines(text).take(MOST_RECORDS).map(<[u8]>::len).sum()..]);
         let tail = tail.unwrap_or_default();
-        let good = number == 2 && lines(tail).all(|line| record_at(line, 0).is_some());
+        let is_record = |line| record_at(line, Unit::Ticks, 0).is_some();
+        let good = number == 2 && lines(tail).all(is_record);
         let next = lines(tail).next().unwrap_or_default();
-        let faulty = number == 2 && record_at(next, 0).is_none();
-        let second = lines(text).nth(1).unwrap_or_default();
-        let grid = second.starts_with(b"G");
+        let faulty = number == 2 && !is_record(next);
+        let grid = grid_line(text).is_some();
+        let metric = unit(text) == Unit::Hundredths;
+        let third = lines(text).nth(2).unwrap_or_default();
         let met = [
             full,
             good,
@@ -146,6 +155,13 @@ impl Counts {
             number == 2 && short,
             accepted && grid,
             accepted && !grid,
+            accepted && metric && grid,
+            accepted && metric && !grid,
+            metric && full,
+            metric && number == 2,
+            metric && at == (1, 2),
+            metric && grid && at == (1, 3),
+            metric && at == (1, 3) && third == b"M\n",
         ];
         for (count, met) in self.corners.iter_mut().zip(met) {
             *count += u64::from(met);

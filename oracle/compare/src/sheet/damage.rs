@@ -3,6 +3,7 @@
 mod bytes;
 mod columns;
 mod records;
+mod units;
 
 use super::texts::{FIELDS, Lines, is_long};
 use crate::rng::Rng;
@@ -56,7 +57,7 @@ const fn field(words: &'static str, fate: Fate, damage: fn(&mut Rng, &mut Lines)
 const OPTIONAL: usize = 3;
 
 /// The first two are those of sheets that are long and of sheets that are damaged twice.
-pub static KINDS: [Kind; 40] = [
+pub static KINDS: [Kind; 49] = [
     kind("bytes after 512 records", TooLong, bytes::after_the_most),
     kind("two kinds at once", Either, twice),
     kind("a byte changed", Either, bytes::changed),
@@ -101,8 +102,17 @@ pub static KINDS: [Kind; 40] = [
     kind("H again", Refused, records::heading_again),
     kind("G at record 1", Refused, records::grid_first),
     kind("G put in at record 2", Either, records::grid_second),
-    kind("G at record 3", Refused, records::grid_third),
+    kind("G put in at record 3", Either, records::grid_third),
     kind("G later", Refused, records::grid_later),
+    kind("M at record 1", Refused, units::first),
+    kind("M put in at record 2", Either, units::second),
+    kind("M at record 3", Refused, units::third),
+    kind("M later", Refused, units::later),
+    kind("M taken out", Accepted, units::taken_out),
+    kind("M moved", Refused, units::moved),
+    kind("G before M", Refused, units::after_grid),
+    kind("M and more in its line", Refused, units::and_more),
+    kind("the LF of M missing", Refused, units::lf_missing),
     kind("a record removed", Either, records::removed),
     kind("a record twice", Either, records::repeated),
     kind("two records swapped", Either, records::swapped),

@@ -1,6 +1,6 @@
 //! Sheets of which most can be laid out: strips and grids of every layout, few long lengths.
 
-use super::texts::Lines;
+use super::texts::{Lines, hundredths};
 use crate::rng::Rng;
 use crate::values::LIMIT_TICKS;
 
@@ -12,6 +12,8 @@ struct Sheet<'a> {
     scale: i32,
     /// No length at its limit and none below 0: else nearly every sheet of many records is refused.
     tame: bool,
+    /// Its W are in hundredths of a millimetre.
+    metric: bool,
 }
 
 /// A record's letter and its fields; nothing is a blank one.
@@ -90,6 +92,19 @@ impl Sheet<'_> {
         line(b'G', &[&least[..], &most, &places].concat())
     }
 
+    /// Of a W; in hundredths half of the time one that is far from its tick, or at it.
+    fn side(&mut self) -> i32 {
+        let n = self.extent() / 4;
+        if !self.metric || n < 0 || self.rng.one_in(8) {
+            return n;
+        }
+        match self.rng.below(60) {
+            0 if !self.tame => LIMIT_TICKS,
+            1 => 1,
+            _ => hundredths(self.rng, 0, n),
+        }
+    }
+
     fn step(&mut self, in_grid: bool) -> Vec<u8> {
         let kinds: &[u8] = match (in_grid, self.rng.below(12)) {
             (_, 0) => b"RLKNT",
@@ -98,7 +113,7 @@ impl Sheet<'_> {
             _ => b"WWWWE",
         };
         match self.rng.pick(kinds) {
-            b'W' => numbers(b'W', &[self.extent() / 4, self.extent() / 4]),
+            b'W' => numbers(b'W', &[self.side(), self.side()]),
             b'E' => numbers(b'E', &[]),
             letter => numbers(letter, &[self.extent() / 2]),
         }
@@ -119,8 +134,17 @@ pub fn sheet(rng: &mut Rng) -> Lines {
     let in_grid = rng.one_in(2);
     // Only row ends: a grid's rows come to their end.
     let rows_only = rng.one_in(40);
-    let mut s = Sheet { rng, scale, tame };
+    let metric = rng.one_in(3);
+    let mut s = Sheet {
+        rng,
+        scale,
+        tame,
+        metric,
+    };
     let mut lines = vec![s.heading(in_grid)];
+    if metric {
+        lines.push(numbers(b'M', &[]));
+    }
     if in_grid {
         lines.push(s.grid());
     }

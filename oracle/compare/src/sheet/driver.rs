@@ -4,7 +4,7 @@ use egui::grid::driver::Memory;
 use egui::placer::driver::{ByLength, Running};
 
 use super::plates::around;
-use super::reference::{self, Outcome as Checked, Record, lines, record_at};
+use super::reference::{self, Outcome as Checked, Record, lines, record_at, unit};
 use crate::emath_ops::{edges, rect};
 use crate::faults::least;
 use crate::grid::New;
@@ -147,6 +147,8 @@ impl<'a> Pass<'a> {
         let by_length = |which, x| Call::ByLength(which, x);
         let call = match record {
             Record::Heading { .. } => unreachable!("H is first only"),
+            // Each W was converted as it was read.
+            Record::Metric => return Ok(()),
             Record::Grid {
                 min_cell: [a, b],
                 max_cell: [c, d],
@@ -209,7 +211,8 @@ pub fn pass(given: &Given) -> Driven {
     if let Checked::Refused { number, record } = reference::check(&given.text, given.out.len()) {
         return refused(given, number, record, &[]);
     }
-    let records = lines(&given.text).map(|line| record_at(line, 0));
+    let unit = unit(&given.text);
+    let records = lines(&given.text).map(|line| record_at(line, unit, 0));
     let mut records = records.map(|record| record.expect("checked"));
     let heading = records.next().expect("checked: there is a first record");
     let mut pass = match Pass::begin(given, heading) {

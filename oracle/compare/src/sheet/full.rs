@@ -36,3 +36,10 @@ pub fn grid(rng: &mut Rng, records: usize, start_row: i32, one_more_in: u32) -> 
     lines.truncate(records);
     lines
 }
+
+/// The same with M, and as many records: the last one is left out.
+pub fn in_hundredths(mut lines: Lines) -> Lines {
+    lines.insert(1, numbers(b'M', &[]));
+    lines.pop();
+    lines
+}

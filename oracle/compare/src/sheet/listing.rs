@@ -4,7 +4,7 @@
 use egui::grid::driver::Memory;
 
 use super::driver::{Given, Passed, pass};
-use super::reference::{MOST_RECORDS, PLACES, line, lines};
+use super::reference::{MOST_RECORDS, PLACES, grid_line, line, lines};
 use crate::values::TICKS_PER_POINT;
 
 /// A list, and the pass that it prints or whose refusal it is.
@@ -16,7 +16,7 @@ pub struct Listed {
 }
 
 pub fn has_grid(text: &[u8]) -> bool {
-    lines(text).nth(1).is_some_and(|line| line[0] == b'G')
+    grid_line(text).is_some()
 }
 
 /// RULES 7.1: with G a second pass over what the first left in the slice, with its memory.

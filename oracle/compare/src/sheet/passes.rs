@@ -5,8 +5,9 @@ use egui::grid::driver::Memory;
 
 use super::damage::damage;
 use super::driver::{self, Driven, Given, Passed, ticks};
+use super::listing::has_grid;
 use super::plates;
-use super::reference::{MOST_RECORDS, PLACES, lines};
+use super::reference::{MOST_RECORDS, PLACES, Unit, lines, unit};
 use super::{drawn, probe};
 use crate::grid::set_aside;
 use crate::grid::states::begin;
@@ -44,7 +45,7 @@ impl Shown for Passed {
 }
 
 /// A pass, and whether its sheet has a grid: without one the memory is the one given, every bit.
-struct Seen(Passed, bool);
+pub struct Seen(pub Passed, pub bool);
 
 impl Shown for Seen {
     fn show(&self) -> String {
@@ -72,7 +73,7 @@ struct Met {
     plates: [u64; plates::CORNERS.len()],
 }
 
-const CORNERS: [&str; 8] = [
+const CORNERS: [&str; 12] = [
     "a strip accepted",
     "another sheet without G accepted",
     "a grid without memory accepted",
@@ -81,6 +82,10 @@ const CORNERS: [&str; 8] = [
     "a fault after some W",
     "a slice that is exactly full",
     "512 records accepted",
+    "a strip with M accepted",
+    "another sheet with M and without G accepted",
+    "a grid with M accepted, not sizing",
+    "a fault after some W in hundredths",
 ];
 
 fn count<const N: usize>(counts: &mut [u64; N], met: [bool; N]) {
@@ -96,21 +101,27 @@ impl Met {
         self.numbers[number] += 1;
         let widgets = lines(text).filter(|line| line[0] == b'W').count();
         let accepted = number == 0;
-        let grid = accepted && lines(text).nth(1).is_some_and(|line| line[0] == b'G');
+        let grid = accepted && has_grid(text);
+        let metric = unit(text) == Unit::Hundredths;
         let plain = text.starts_with(b"H       0       0") && {
             let field = |n: usize| text.get(1 + 8 * n + 7) == Some(&b'0');
             field(3) && field(4) && field(5)
         };
-        let before_fault = lines(text).take(passed.record.saturating_sub(1));
+        let mut before_fault = lines(text).take(passed.record.saturating_sub(1));
+        let after_some = number > 3 && before_fault.any(|line| line[0] == b'W');
         let met = [
             accepted && !grid && plain,
             accepted && !grid && !plain,
             grid && !given.known,
             grid && given.known && !given.sizing,
             grid && given.known && given.sizing,
-            number > 3 && before_fault.into_iter().any(|line| line[0] == b'W'),
+            after_some,
             accepted && widgets != 0 && given.out.len() == PLACES * widgets,
             accepted && lines(text).count() == MOST_RECORDS,
+            metric && accepted && !grid && plain,
+            metric && accepted && !grid && !plain,
+            metric && grid && given.known && !given.sizing,
+            metric && after_some,
         ];
         count(&mut self.corners, met);
         if accepted {
@@ -149,9 +160,7 @@ impl Met {
 fn compare_pass(t: &mut Tally, given: &Given, met: &mut Met) -> Passed {
     let mut ours = probe::pass(given);
     let theirs = driver::pass(given);
-    let grid = lines(&given.text)
-        .nth(1)
-        .is_some_and(|line| line[0] == b'G');
+    let grid = has_grid(&given.text);
     if ours.number == 0 && grid && given.known {
         set_aside(&given.memory, &mut ours.memory);
     }

@@ -7,6 +7,7 @@ use packing::Packed;
 use super::answers::{Checked, FieldRead, HeadingRead, RecordRead, Written};
 #[cfg(feature = "placer")]
 use super::driver::{Given, Passed};
+use super::reference::Unit;
 
 /// What a list is printed into: room for 512 W, P, 32 C and 128 D.
 #[cfg(feature = "placer")]
@@ -22,9 +23,15 @@ unsafe extern "C" {
         text: *const u8,
         len: usize,
         lengths: &mut [f32; 10],
-        counts: &mut [usize; 11],
+        counts: &mut [usize; 12],
     ) -> usize;
-    fn record_read(text: *const u8, len: usize, at: usize, lengths: &mut [f32; 2]) -> u8;
+    fn record_read(
+        text: *const u8,
+        len: usize,
+        hundredths: bool,
+        at: usize,
+        lengths: &mut [f32; 2],
+    ) -> u8;
     fn sheet_check(text: *const u8, len: usize, room: usize, counts: &mut [usize; 2]) -> u8;
     #[cfg(feature = "placer")]
     fn listing_print(text: *const u8, len: usize, out: &mut [u8; LIST_ROOM]) -> usize;
@@ -55,9 +62,10 @@ pub fn read_heading(text: &[u8]) -> HeadingRead {
     read
 }
 
-pub fn read_record(text: &[u8], at: usize) -> RecordRead {
+pub fn read_record(text: &[u8], unit: Unit, at: usize) -> RecordRead {
     let mut read = RecordRead::UNTOUCHED;
-    read.kind = unsafe { record_read(text.as_ptr(), text.len(), at, &mut read.lengths) };
+    let (lengths, hundredths) = (&mut read.lengths, unit == Unit::Hundredths);
+    read.kind = unsafe { record_read(text.as_ptr(), text.len(), hundredths, at, lengths) };
     read
 }
 

@@ -1,4 +1,4 @@
-//! A sheet's text by RULES 6.1 to 6.11, and numbers 1 to 3 by RULES 8.6 to 8.8.
+//! A sheet's text by RULES 6.1 to 6.11, 6.24 and 6.25, and numbers 1 to 3 by RULES 8.6 to 8.8.
 
 use std::ops::RangeInclusive;
 
@@ -39,12 +39,34 @@ pub fn field(text: &[u8], at: usize, limit: u32) -> Field {
     }
 }
 
+/// RULES 6.24: what the fields of a W count.
+#[derive(Clone, Copy, PartialEq)]
+pub enum Unit {
+    Ticks,
+    Hundredths,
+}
+
+/// An inch is 72 points, and 25.4 mm.
+const INCH_TICKS: i64 = 2_304;
+const INCH_HUNDREDTHS: i64 = 2_540;
+
+/// RULES 6.25: of the two ticks about so many hundredths of a millimetre the nearer one. None is in the
+/// middle of them, so a negative length is the mirror of a positive one by itself.
+pub fn from_hundredths(n: i32) -> i32 {
+    let exact = INCH_TICKS * i64::from(n);
+    let below = exact.div_euclid(INCH_HUNDREDTHS);
+    let above = below + 1;
+    let [down, up] = [below, above].map(|ticks| exact.abs_diff(INCH_HUNDREDTHS * ticks));
+    (if down < up { below } else { above }) as i32
+}
+
 pub enum Record {
     Heading {
         layout: [usize; 6],
         max_rect: [f32; 4],
         spacing: [f32; 2],
     },
+    Metric,
     Grid {
         min_cell: [f32; 2],
         max_cell: [f32; 2],
@@ -89,6 +111,16 @@ impl Fields<'_> {
         self.length_or_blank()?
     }
 
+    /// RULES 6.24: a side of a W, whose range is that of its field.
+    fn side(&mut self, unit: Unit) -> Option<f32> {
+        let n = self.number(LIMIT_TICKS as u32)??;
+        let ticks = match unit {
+            Unit::Ticks => n,
+            Unit::Hundredths => from_hundredths(n),
+        };
+        Some(ticks as f32 / TICKS_PER_POINT)
+    }
+
     /// RULES 6.9: a bound of the cell, none where it is blank.
     fn max_length(&mut self) -> Option<f32> {
         Some(self.length_or_blank()?.unwrap_or(f32::INFINITY))
@@ -108,7 +140,7 @@ impl Fields<'_> {
 }
 
 /// The record that a line is, its LF with it.
-fn record(line: &[u8]) -> Option<Record> {
+fn record(line: &[u8], unit: Unit) -> Option<Record> {
     let (letter, rest) = line.split_first()?;
     let mut f = Fields(rest);
     let record = match letter {
@@ -124,13 +156,14 @@ fn record(line: &[u8]) -> Option<Record> {
             max_rect: [f.length()?, f.length()?, f.length()?, f.length()?],
             spacing: [f.length()?, f.length()?],
         },
+        b'M' => Record::Metric,
         b'G' => Record::Grid {
             min_cell: [f.length()?, f.length()?],
             max_cell: [f.max_length()?, f.max_length()?],
             columns: f.within_or_blank(1..=32)?,
             start_row: f.within(0..=127)?,
         },
-        b'W' => Record::Widget([f.length()?, f.length()?]),
+        b'W' => Record::Widget([f.side(unit)?, f.side(unit)?]),
         b'S' => Record::Space(f.length()?),
         b'R' => Record::RowHeight(f.length()?),
         b'L' => Record::MaxWidth(f.length()?),
@@ -148,8 +181,25 @@ pub fn lines(text: &[u8]) -> impl Iterator<Item = &[u8]> {
     text.split_inclusive(|&byte| byte == b'\n')
 }
 
-pub fn record_at(text: &[u8], at: usize) -> Option<Record> {
-    record(lines(text.get(at..)?).next()?)
+pub fn record_at(text: &[u8], unit: Unit, at: usize) -> Option<Record> {
+    record(lines(text.get(at..)?).next()?, unit)
+}
+
+/// By the letter right after H.
+pub fn unit(text: &[u8]) -> Unit {
+    match lines(text).nth(1) {
+        Some([b'M', ..]) => Unit::Hundredths,
+        _ => Unit::Ticks,
+    }
+}
+
+/// The line of G, after H and M.
+pub fn grid_line(text: &[u8]) -> Option<&[u8]> {
+    let before = match unit(text) {
+        Unit::Ticks => 1,
+        Unit::Hundredths => 2,
+    };
+    lines(text).nth(before).filter(|line| line[0] == b'G')
 }
 
 /// What comes before the first step; of a sheet without a G the grid's numbers are all zero.
@@ -157,6 +207,7 @@ pub struct Heading {
     pub layout: [usize; 6],
     pub max_rect: [f32; 4],
     pub spacing: [f32; 2],
+    pub unit: Unit,
     pub grid: bool,
     pub min_cell: [f32; 2],
     pub max_cell: [f32; 2],
@@ -166,15 +217,23 @@ pub struct Heading {
     pub next: usize,
 }
 
+impl Heading {
+    /// One more record of it.
+    fn take(&mut self, line: &[u8]) {
+        self.records += 1;
+        self.next += line.len();
+    }
+}
+
 /// The heading of a text, or the record that it goes wrong at.
 pub fn heading(text: &[u8]) -> Result<Heading, usize> {
-    let mut lines = lines(text);
+    let mut lines = lines(text).peekable();
     let first = lines.next().ok_or(1_usize)?;
     let Some(Record::Heading {
         layout,
         max_rect,
         spacing,
-    }) = record(first)
+    }) = record(first, Unit::Ticks)
     else {
         return Err(1);
     };
@@ -182,6 +241,7 @@ pub fn heading(text: &[u8]) -> Result<Heading, usize> {
         layout,
         max_rect,
         spacing,
+        unit: Unit::Ticks,
         grid: false,
         min_cell: [0.0; 2],
         max_cell: [0.0; 2],
@@ -190,7 +250,14 @@ pub fn heading(text: &[u8]) -> Result<Heading, usize> {
         records: 1,
         next: first.len(),
     };
-    let Some(second) = lines.next().filter(|line| line[0] == b'G') else {
+    if let Some(line) = lines.next_if(|line| line[0] == b'M') {
+        if line != b"M\n" {
+            return Err(2);
+        }
+        heading.unit = Unit::Hundredths;
+        heading.take(line);
+    }
+    let Some(line) = lines.next_if(|line| line[0] == b'G') else {
         return Ok(heading);
     };
     let Some(Record::Grid {
@@ -198,15 +265,14 @@ pub fn heading(text: &[u8]) -> Result<Heading, usize> {
         max_cell,
         columns,
         start_row,
-    }) = record(second)
+    }) = record(line, heading.unit)
     else {
-        return Err(2);
+        return Err(heading.records + 1);
     };
     heading.grid = true;
     (heading.min_cell, heading.max_cell) = (min_cell, max_cell);
     (heading.columns, heading.start_row) = (columns.unwrap_or(0), start_row);
-    heading.records += 1;
-    heading.next += second.len();
+    heading.take(line);
     Ok(heading)
 }
 
@@ -222,20 +288,25 @@ pub fn check(text: &[u8], room: usize) -> Outcome {
         return refused(1, 1);
     }
     let (mut records, mut widgets) = (0, 0);
+    // Where a G may stand: an M moves it on.
+    let mut grid_at = 2;
     for line in lines(text) {
         if records == MOST_RECORDS {
             return refused(2, MOST_RECORDS + 1);
         }
         records += 1;
-        let in_place = match record(line) {
+        // A W's range is the same in both units.
+        let in_place = match record(line, Unit::Ticks) {
             Some(Record::Heading { .. }) => records == 1,
-            Some(Record::Grid { .. }) => records == 2,
+            Some(Record::Metric) => records == 2,
+            Some(Record::Grid { .. }) => records == grid_at,
             Some(_) => records != 1,
             None => false,
         };
         if !in_place {
             return refused(1, records);
         }
+        grid_at += usize::from(line[0] == b'M');
         widgets += usize::from(line[0] == b'W');
     }
     if room < PLACES * widgets {

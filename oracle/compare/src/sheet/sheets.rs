@@ -3,7 +3,7 @@
 use super::answers::{Checked, HeadingRead, RecordRead};
 use super::counts::Counts;
 use super::damage::damage;
-use super::reference::{self, MOST_RECORDS, PLACES, lines};
+use super::reference::{self, Heading, MOST_RECORDS, PLACES, Unit, lines};
 use super::{probe, texts};
 use crate::rng::Rng;
 use crate::tally::{Shown, Tally, say};
@@ -17,8 +17,24 @@ const THOUSANDS: u64 = 1_200;
 /// The kinds of step, as record_read numbers them.
 const RECORD_KINDS: [&str; 9] = ["none", "W", "S", "R", "L", "K", "N", "T", "E"];
 
-/// The kinds of heading: the record at fault, or none, without a grid and with one.
-const HEADING_KINDS: [&str; 4] = ["H alone", "H and G", "fault at H", "fault at G"];
+/// The units of a W, as heading_read numbers them.
+const UNITS: [Unit; 2] = [Unit::Ticks, Unit::Hundredths];
+const READ_IN: [&str; 2] = ["in ticks, at", "in hundredths, at"];
+
+/// How often each kind was read, by unit.
+type RecordKinds = [[u64; RECORD_KINDS.len()]; UNITS.len()];
+
+/// The kinds of heading: the record at fault, or none.
+const HEADING_KINDS: [&str; 8] = [
+    "H alone",
+    "H and G",
+    "H and M",
+    "H, M and G",
+    "fault at H",
+    "fault at M",
+    "fault at G",
+    "fault at G after M",
+];
 
 /// A text, and the places lent or where the record starts.
 struct Case<'a>(&'a [u8], &'a str, usize);
@@ -53,21 +69,30 @@ fn offset(rng: &mut Rng, len: usize) -> usize {
 }
 
 /// Reads a record on both sides.
-fn read(t: &mut Tally, text: &[u8], at: usize, kinds: &mut [u64; RECORD_KINDS.len()]) {
-    let ours = probe::read_record(text, at);
-    let theirs = RecordRead::from(reference::record_at(text, at));
-    kinds[usize::from(theirs.kind)] += 1;
-    t.agree(RECORDS, &Case(text, "at", at), &ours, &theirs);
+fn read(t: &mut Tally, text: &[u8], unit: Unit, at: usize, kinds: &mut RecordKinds) {
+    let ours = probe::read_record(text, unit, at);
+    let theirs = RecordRead::from(reference::record_at(text, unit, at));
+    kinds[unit as usize][usize::from(theirs.kind)] += 1;
+    let case = Case(text, READ_IN[unit as usize], at);
+    t.agree(RECORDS, &case, &ours, &theirs);
+}
+
+/// Its place among the kinds.
+fn heading_kind(heading: &Result<Heading, usize>, unit: Unit) -> usize {
+    match (heading, unit) {
+        (Ok(heading), _) => 2 * heading.unit as usize + usize::from(heading.grid),
+        (Err(1), _) => 4,
+        (Err(2), Unit::Hundredths) => 5,
+        (Err(2), Unit::Ticks) => 6,
+        (Err(_), _) => 7,
+    }
 }
 
 /// Reads the heading on both sides.
 fn read_heading(t: &mut Tally, text: &[u8], kinds: &mut [u64; HEADING_KINDS.len()]) {
     let ours = probe::read_heading(text);
     let heading = reference::heading(text);
-    kinds[match &heading {
-        Ok(heading) => usize::from(heading.grid),
-        Err(fault) => 1 + fault,
-    }] += 1;
+    kinds[heading_kind(&heading, reference::unit(text))] += 1;
     let theirs = HeadingRead::from(heading);
     t.agree(HEADINGS, &Case(text, "from", 0), &ours, &theirs);
 }
@@ -76,7 +101,7 @@ fn read_heading(t: &mut Tally, text: &[u8], kinds: &mut [u64; HEADING_KINDS.len(
 fn show_kinds(t: &mut Tally, what: &str, kinds: &[&str], counts: &[u64]) {
     let shown = kinds.iter().zip(counts);
     let shown = shown.map(|(words, count)| format!("{words}: {count}"));
-    say!(t, "  {}", shown.collect::<Vec<_>>().join(", "));
+    say!(t, "  {what}: {}", shown.collect::<Vec<_>>().join(", "));
     for (words, &count) in kinds.iter().zip(counts) {
         if count == 0 {
             t.lacking(&format!("{what} read as {words}"));
@@ -87,7 +112,7 @@ fn show_kinds(t: &mut Tally, what: &str, kinds: &[&str], counts: &[u64]) {
 pub fn compare(t: &mut Tally) {
     let mut rng = Rng::new(t.seed, SHEETS);
     let mut counts = Counts::new();
-    let mut kinds = [0; RECORD_KINDS.len()];
+    let mut kinds = RecordKinds::default();
     let mut headings = [0; HEADING_KINDS.len()];
     let (mut sheets_differ, mut headings_differ, mut records_differ) = (0, 0, 0);
     let sheets = THOUSANDS * 1_000 * t.times;
@@ -115,23 +140,25 @@ pub fn compare(t: &mut Tally) {
         headings_differ += t.differences - before;
 
         let before = t.differences;
-        let mut at = 0;
+        let (unit, mut at) = (reference::unit(&text), 0);
         for line in lines(&text) {
-            read(t, &text, at, &mut kinds);
+            read(t, &text, unit, at, &mut kinds);
             at += line.len();
         }
-        for _ in 0..2 {
+        for unit in UNITS {
             let at = offset(&mut rng, text.len());
-            read(t, &text, at, &mut kinds);
+            read(t, &text, unit, at, &mut kinds);
         }
         records_differ += t.differences - before;
     }
     say!(t, "{SHEETS}: {sheets} cases, {sheets_differ} differ");
     counts.show_numbers(t);
     say!(t, "{HEADINGS}: {sheets} cases, {headings_differ} differ");
-    show_kinds(t, "a heading", &HEADING_KINDS, &headings);
-    let records = kinds.iter().sum::<u64>();
+    show_kinds(t, "headings", &HEADING_KINDS, &headings);
+    let records = kinds.iter().flatten().sum::<u64>();
     say!(t, "{RECORDS}: {records} cases, {records_differ} differ");
-    show_kinds(t, "a record", &RECORD_KINDS, &kinds);
+    let [ticks, hundredths] = &kinds;
+    show_kinds(t, "records in ticks", &RECORD_KINDS, ticks);
+    show_kinds(t, "records in hundredths", &RECORD_KINDS, hundredths);
     counts.show_damage(t);
 }

@@ -60,7 +60,7 @@ const GRID: [Holds; 6] = [
 ];
 
 /// Each letter, and its fields.
-pub const LETTERS: [(u8, &[Holds]); 10] = [
+pub const LETTERS: [(u8, &[Holds]); 11] = [
     (b'H', &HEADING),
     (b'G', &GRID),
     (b'W', &[LENGTH, LENGTH]),
@@ -71,6 +71,7 @@ pub const LETTERS: [(u8, &[Holds]); 10] = [
     (b'N', &[LENGTH]),
     (b'T', &[LENGTH]),
     (b'E', &[]),
+    (b'M', &[]),
 ];
 
 /// The fields of all letters together.
@@ -125,6 +126,31 @@ pub fn record(rng: &mut Rng, letter: u8) -> Vec<u8> {
     line
 }
 
+/// Sides whose 576-fold leaves 317, 318, 0, 1 and 634 of 635: the farthest from a tick, right at one,
+/// and beside one.
+const LEAVING: [i32; 5] = [522, 113, 0, 226, 409];
+
+/// A side of a W in hundredths: half of the time one of these, of any magnitude and sign.
+pub fn hundredths(rng: &mut Rng, least: i32, most: i32) -> i32 {
+    let n = whole(rng, least, most);
+    let near = n - n % 635 + rng.pick(&LEAVING) * n.signum();
+    if rng.one_in(2) && (least..=most).contains(&near) {
+        near
+    } else {
+        n
+    }
+}
+
+/// A step of a sheet with M.
+fn metric(rng: &mut Rng, letter: u8) -> Vec<u8> {
+    if letter != b'W' {
+        return record(rng, letter);
+    }
+    let sides = [(); 2].map(|()| hundredths(rng, -LIMIT_TICKS, LIMIT_TICKS));
+    let sides = sides.map(|n| format!("{n:>COLUMNS$}"));
+    format!("W{}\n", sides.concat()).into_bytes()
+}
+
 /// The letters that a sheet goes on with: all, controls and row ends, one letter only.
 const REST: [&[u8]; 5] = [b"WSRLKNTE", b"WSRLKNTE", b"WWWE", b"W", b"E"];
 
@@ -138,13 +164,18 @@ pub fn sheet(rng: &mut Rng) -> Lines {
         _ => 1 + rng.below(12) as usize,
     };
     let mut lines = vec![record(rng, b'H')];
-    if records > 1 && rng.one_in(2) {
+    let in_hundredths = records > 1 && rng.one_in(2);
+    if in_hundredths {
+        lines.push(record(rng, b'M'));
+    }
+    if records > lines.len() && rng.one_in(2) {
         lines.push(record(rng, b'G'));
     }
     let letters = rng.pick(&REST);
+    let step: fn(&mut Rng, u8) -> Vec<u8> = if in_hundredths { metric } else { record };
     while lines.len() < records {
         let letter = rng.pick(letters);
-        lines.push(record(rng, letter));
+        lines.push(step(rng, letter));
     }
     lines
 }

@@ -6,7 +6,7 @@ use crate::sheet::reference::MOST_RECORDS;
 use crate::sheet::texts::{Lines, record, somewhere};
 
 /// What may take a byte's place: all that a sheet is made of, and what looks like it.
-const BYTES: &[u8] = b"0123456789 \n\r\t-+.,_HGWSRLKNTEhgwsrlkntexX/:\x00\x7f\x80\xff";
+const BYTES: &[u8] = b"0123456789 \n\r\t-+.,_HMGWSRLKNTEhmgwsrlkntexX/:\x00\x7f\x80\xff";
 
 /// Does something to the text, unless it is empty.
 fn to_the_text(lines: &mut Lines, damage: impl FnOnce(&mut Vec<u8>)) -> Hit {

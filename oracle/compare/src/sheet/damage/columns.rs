@@ -11,7 +11,8 @@ const BLANK: [u8; COLUMNS] = [b' '; COLUMNS];
 fn field(rng: &mut Rng, lines: &Lines) -> (usize, usize, usize) {
     let mut tries = (0..4).map(|_| somewhere(rng, lines.len()));
     // H has fields, if no other is found.
-    let line = tries.find(|&i| lines[i][0] != b'E').unwrap_or(0);
+    let line = tries.find(|&i| !fields_of(lines[i][0]).is_empty());
+    let line = line.unwrap_or(0);
     let fields = fields_of(lines[line][0]).len();
     let field = rng.below(fields as u32) as usize;
     (line, field, 1 + COLUMNS * field)

@@ -89,11 +89,12 @@ pub fn grid_first(rng: &mut Rng, lines: &mut Lines) -> Hit {
     grid_at(rng, lines, 0)
 }
 
-/// Where there is one already, that is misplaced then.
+/// Where there is one already, or an M, that is misplaced then.
 pub fn grid_second(rng: &mut Rng, lines: &mut Lines) -> Hit {
     grid_at(rng, lines, 1)
 }
 
+/// Its place after an M.
 pub fn grid_third(rng: &mut Rng, lines: &mut Lines) -> Hit {
     grid_at(rng, lines, 2)
 }

@@ -131,6 +131,18 @@ pub fn mixed(rng: &mut Rng) -> Lines {
     }
 }
 
+/// Any of these, its W in hundredths of a millimetre.
+pub fn metric(rng: &mut Rng) -> Lines {
+    let mut lines = match rng.below(4) {
+        0 => strip(rng),
+        1 => wrapped(rng),
+        2 => grid(rng),
+        _ => mixed(rng),
+    };
+    lines.insert(1, numbers(b'M', &[]));
+    lines
+}
+
 /// A grid of any direction, about its last row.
 fn last_rows(rng: &mut Rng) -> Lines {
     let (layout, start_row) = (any_layout(rng), within(rng, 126, 127));
@@ -154,9 +166,10 @@ pub fn faulty(rng: &mut Rng) -> Lines {
 }
 
 pub fn damaged(rng: &mut Rng) -> Vec<u8> {
-    let mut lines = match rng.below(3) {
+    let mut lines = match rng.below(4) {
         0 => strip(rng),
         1 => grid(rng),
+        2 => metric(rng),
         _ => mixed(rng),
     };
     lines.truncate(6);

@@ -28,12 +28,13 @@ struct Theme {
     keeps: fn(usize, u8) -> bool,
 }
 
-const THEMES: [Theme; 8] = [
+const THEMES: [Theme; 9] = [
     theme("strips", 350, |rng, _| drawing::strip(rng).concat()),
     theme("wrapped", 300, |rng, _| drawing::wrapped(rng).concat()),
     theme("layouts", 288, every_layout),
     theme("grids", 400, |rng, _| drawing::grid(rng).concat()),
     theme("records", 300, |rng, _| drawing::mixed(rng).concat()),
+    theme("metric", 200, |rng, _| drawing::metric(rng).concat()),
     Theme {
         keeps: |n, number| number == [6, 7, 8, 9][n % 4],
         ..theme("refused", 160, |rng, _| drawing::faulty(rng).concat())

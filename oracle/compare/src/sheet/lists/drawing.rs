@@ -27,9 +27,15 @@ fn damaged(rng: &mut Rng) -> Vec<u8> {
 /// A grid's last rows reach row 127, now and then 128.
 fn filled_up(rng: &mut Rng) -> Lines {
     let records = MOST_RECORDS - rng.below(4) as usize;
-    if rng.one_in(2) {
-        return full::strip(rng, records);
+    let lines = if rng.one_in(2) {
+        full::strip(rng, records)
+    } else {
+        let start_row = rng.pick(&[111, 112, 112, 112, 112, 113]);
+        full::grid(rng, records, start_row, 100)
+    };
+    if rng.one_in(3) {
+        full::in_hundredths(lines)
+    } else {
+        lines
     }
-    let start_row = rng.pick(&[111, 112, 112, 112, 112, 113]);
-    full::grid(rng, records, start_row, 100)
 }

@@ -19,14 +19,15 @@ fn length(rng: &mut Rng) -> usize {
     }
 }
 
-/// 512 good records; what comes after H and G is repeated.
+/// 512 good records; what comes after H, M and G is repeated.
 fn filled(rng: &mut Rng) -> Lines {
     let mut lines = drawn::sheet(rng);
     lines.truncate(MOST_RECORDS);
-    let steps = match lines.get(2..) {
-        Some(steps) if !steps.is_empty() => steps.to_vec(),
-        _ => vec![b"E\n".to_vec()],
-    };
+    let heading = |line: &&Vec<u8>| b"HMG".contains(&line[0]);
+    let mut steps = Vec::from_iter(lines.iter().skip_while(heading).cloned());
+    if steps.is_empty() {
+        steps.push(b"E\n".to_vec());
+    }
     let missing = MOST_RECORDS - lines.len();
     lines.extend(steps.into_iter().cycle().take(missing));
     lines

@@ -2,7 +2,9 @@
 
 use super::long::MOST_BYTES;
 use crate::sheet::listing::Listed;
-use crate::sheet::reference::{MOST_RECORDS, PLACES, Record, lines, record_at};
+use crate::sheet::reference::{
+    Field, MOST_RECORDS, PLACES, Record, Unit, field, grid_line, lines, record_at, unit,
+};
 use crate::tally::{Tally, say};
 use crate::values::LIMIT_TICKS;
 
@@ -10,14 +12,14 @@ use crate::values::LIMIT_TICKS;
 /// and 5, since a field cannot say such a length.
 const NUMBERS: [usize; 7] = [0, 1, 2, 6, 7, 8, 9];
 
-const LETTERS: &[u8] = b"HGWSRLKNTE";
+const LETTERS: &[u8] = b"HGWSRLKNTEM";
 
 /// How many layouts have to be met: without a grid all but the 48 whose H gets 9, with a grid those
 /// of directions 0 and 2.
 const LAYOUTS: [usize; 2] = [240, 120];
 
 /// Of accepted sheets.
-const ACCEPTED: [&str; 21] = [
+const ACCEPTED: [&str; 30] = [
     "a strip",
     "another sheet without G",
     "a grid",
@@ -39,12 +41,25 @@ const ACCEPTED: [&str; 21] = [
     "an edge at the limit",
     "512 records",
     "511 W",
+    "a strip with M",
+    "another sheet with M and without G",
+    "a grid with M",
+    "512 records, M among them",
+    "a side of 1 hundredth",
+    "a side of some whole ticks in hundredths",
+    "a side in hundredths, the farthest above its tick",
+    "a side in hundredths, the farthest below its tick",
+    "a side of 2,097,152 hundredths",
 ];
 
-const REFUSED: [&str; 3] = [
+const REFUSED: [&str; 7] = [
     "a grid's second pass, after the first was accepted",
     "more bytes than 512 records have, and one of these at fault: 1",
     "more bytes than 512 records have, and these good: 2",
+    "M at fault: 1",
+    "the G after M on direction 1 or 3: 7",
+    "a negative W in hundredths: 6",
+    "a W in hundredths that gets 9",
 ];
 
 pub struct Met {
@@ -93,6 +108,29 @@ fn of_grid(record: Option<Record>) -> [bool; 9] {
     ]
 }
 
+/// The numbers of a W's two fields.
+fn sides(line: &[u8]) -> impl Iterator<Item = i64> {
+    let number = |at| match field(line, at, LIMIT_TICKS as u32) {
+        Field::Number(n) => Some(i64::from(n)),
+        _ => None,
+    };
+    [1, 9].into_iter().filter_map(number)
+}
+
+/// The corners of the W of an accepted sheet with M.
+fn of_sides(text: &[u8]) -> [bool; 5] {
+    let controls = lines(text).filter(|line| line[0] == b'W');
+    let sides = Vec::from_iter(controls.flat_map(sides));
+    let leaves = |parts| move |n: &i64| *n != 0 && 576 * n % 635 == parts;
+    [
+        sides.contains(&1),
+        sides.iter().any(leaves(0)),
+        sides.iter().any(leaves(317)),
+        sides.iter().any(leaves(318)),
+        sides.contains(&LIMIT_TICKS.into()),
+    ]
+}
+
 /// How many records each letter has.
 fn count_letters(text: &[u8]) -> [usize; LETTERS.len()] {
     let mut counts = [0; LETTERS.len()];
@@ -132,16 +170,24 @@ impl Met {
             self.note_accepted(text, listed);
         }
         let too_many = text.len() > MOST_BYTES;
+        let metric = unit(text) == Unit::Hundredths;
+        let record = listed.passed.record;
+        let fault = lines(text).nth(record.wrapping_sub(1)).unwrap_or_default();
+        let at = |letter: u8| metric && fault.first() == Some(&letter);
         let met = [
             number != 0 && listed.passes == 2,
             number == 1 && too_many,
             number == 2 && too_many,
+            number == 1 && record == 2 && at(b'M'),
+            number == 7 && record == 3 && at(b'G'),
+            number == 6 && at(b'W'),
+            number == 9 && at(b'W'),
         ];
         count(&mut self.refused, met);
     }
 
     fn note_accepted(&mut self, text: &[u8], listed: &Listed) {
-        let Some(Record::Heading { layout, .. }) = record_at(text, 0) else {
+        let Some(Record::Heading { layout, .. }) = record_at(text, Unit::Ticks, 0) else {
             unreachable!("an accepted sheet begins with H");
         };
         let letters = count_letters(text);
@@ -153,9 +199,12 @@ impl Met {
         let strip = layout[..2] == [0; 2] && layout[3..] == [0; 3];
         let [columns, rows] = listed.passed.memory.counts;
         let heights = &listed.passed.memory.heights[..rows];
-        let second = lines(text).nth(1).unwrap_or_default();
-        let [a, b, c, d, e, f, g, h, i] = of_grid(record_at(second, 0));
+        let options = grid_line(text).and_then(|line| record_at(line, Unit::Ticks, 0));
+        let [a, b, c, d, e, f, g, h, i] = of_grid(options);
         let [left_and_above, across, at_the_limit] = of_list(listed, widgets);
+        let full = letters.iter().sum::<usize>() == MOST_RECORDS;
+        let metric = unit(text) == Unit::Hundredths;
+        let [one, whole, above, below, longest] = of_sides(text).map(|met| metric && met);
         let met = [
             !grid && strip,
             !grid && !strip,
@@ -176,8 +225,17 @@ impl Met {
             left_and_above,
             across,
             at_the_limit,
-            letters.iter().sum::<usize>() == MOST_RECORDS,
+            full,
             widgets == MOST_RECORDS - 1,
+            metric && !grid && strip,
+            metric && !grid && !strip,
+            metric && grid,
+            metric && full,
+            one,
+            whole,
+            above,
+            below,
+            longest,
         ];
         count(&mut self.accepted, met);
     }

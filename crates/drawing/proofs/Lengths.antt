@@ -10,7 +10,7 @@ use lib.ListN.{length}
 use Rattle.drawing.specs.Pieces.{Put, emits, marked, next, filled, joined}
 use Rattle.drawing.specs.Pages.{InBounds, isLine, linesFrom, pageFor, pageWidth, pageHeight}
 use Rattle.drawing.specs.Drawings.{columnLines, rowLines, control, outlines, window, wholeWindow, windows, captions, label, labels, widgetRow, plateRow, columnRow, rowRow, one, each, seen, flat, covers}
-use Rattle.drawing.specs.Pictures.{style, head, points, title, gridWidgets, shapes, widthLine, heightLine, dimensions, scaleLine, scale, picture, key, accepted, reason, refusalNumber, refusal, drawnFrom, pieces, drawing, drawnIn}
+use Rattle.drawing.specs.Pictures.{style, head, points, millimetres, sizeInMillimetres, inMillimetres, title, gridWidgets, shapes, widthLine, heightLine, dimensions, scaleLine, scale, picture, key, accepted, reason, refusalNumber, refusal, drawnFrom, pieces, drawing, drawnIn}
 use Rattle.drawing.specs.declared.Page.{Page}
 use Rattle.drawing.specs.declared.Layer.{Layer}
 use Rattle.drawing.specs.declared.Layer.the-variants.{ColumnLines, RowLines, Outlines, Windows, Captions, Labels, WidgetRows, ColumnRows, RowRows}
@@ -124,9 +124,27 @@ module _ (p : Page) (s : List ℕ) where
   unfolding head style most taken marked next
   head-size width height = both _ _ {m = 133} {n = 700} (fill _ _ _ _ tt) (fill _ _ _ _ tt)
 
-  title-size : size (title p s) ≤ 40 + (23 + (8 + (23 + 167)))
+  millimetres-size : (n : ℕ) → size (millimetres s n) ≤ 28
+  unfolding millimetres most taken marked next
+  millimetres-size n = fill _ _ _ _ tt
+
+  metric-size : size (sizeInMillimetres p s) ≤ 2 + (28 + (8 + (28 + 10)))
+  unfolding sizeInMillimetres most taken marked next
+  metric-size = both _ _ {m = 2} {n = 74} (fill _ _ _ _ tt) (both _ _ {m = 28} {n = 46} (millimetres-size _) (both _ _ {m = 8} {n = 38} (fill _ _ _ _ tt) (both _ _ {m = 28} {n = 10} (millimetres-size _) (fill _ _ _ _ tt))))
+
+  in-millimetres-size : (metric : Bool) → size (inMillimetres metric p s) ≤ 76
+  unfolding inMillimetres
+  in-millimetres-size true = metric-size
+  in-millimetres-size false = nothing 76
+
+  title-size : (metric : Bool) → size (title metric p s) ≤ 40 + (23 + (8 + (23 + (76 + 167))))
   unfolding title most taken marked next
-  title-size = both _ _ {m = 40} {n = 221} (fill _ _ _ _ tt) (both _ _ {m = 23} {n = 198} (points-size _) (both _ _ {m = 8} {n = 190} (fill _ _ _ _ tt) (both _ _ {m = 23} {n = 167} (points-size _) (fill _ _ _ _ tt))))
+  title-size metric =
+      both _ _ {m = 40} {n = 297} (fill _ _ _ _ tt)
+      (both _ _ {m = 23} {n = 274} (points-size _)
+      (both _ _ {m = 8} {n = 266} (fill _ _ _ _ tt)
+      (both _ _ {m = 23} {n = 243} (points-size _)
+      (both _ _ {m = 76} {n = 167} (in-millimetres-size metric) (fill _ _ _ _ tt)))))
 
   grid-widgets-few : p .widgets ≤ 512 → gridWidgets p ≤ 512
   grid-widgets-few h = go (eqb (p .columns) 0)
@@ -177,10 +195,10 @@ module _ (p : Page) (s : List ℕ) where
       (both _ _ {m = 2944} {n = 11783} (layer-size ColumnRows _ 32 (f .columns))
       (both _ _ {m = 11776} {n = 7} (layer-size RowRows _ 128 (f .rows)) (fill _ _ _ _ tt)))))
 
-  accepted-size : InBounds p → size (accepted p s) ≤ 300000
+  accepted-size : (metric : Bool) → InBounds p → size (accepted metric p s) ≤ 300000
   unfolding accepted
-  accepted-size f =
-      let l : size (head s (pageWidth p) (pageHeight p) ++ (title p s ++ (picture p s ++ key p s))) ≤ 833 + (261 + (193591 + 94394)) = both _ _ (head-size _ _) (both _ _ title-size (both _ _ (picture-size f) (key-size f))) in
+  accepted-size metric f =
+      let l : size (head s (pageWidth p) (pageHeight p) ++ (title metric p s ++ (picture p s ++ key p s))) ≤ 833 + (337 + (193591 + 94394)) = both _ _ (head-size _ _) (both _ _ (title-size metric) (both _ _ (picture-size f) (key-size f))) in
       omega (arith, l)
 
 -- ---- a refusal
@@ -214,22 +232,22 @@ refusal-size s line =
     (both _ _ {m = 78} {n = 15} (words-size s (refusalNumber s line)) (fill _ _ _ _ tt)))
 
 -- ---- the whole
-drawn-by : (s : List ℕ) (w : ℕ) → InBounds (pageFor s w) → (b : Bool) → isLine 80 34 s (74 * w) ≡ b → size (drawnFrom s w) ≤ 300000
+drawn-by : (metric : Bool) (s : List ℕ) (w : ℕ) → InBounds (pageFor s w) → (b : Bool) → isLine 80 34 s (74 * w) ≡ b → size (drawnFrom metric s w) ≤ 300000
 unfolding drawnFrom
-drawn-by s w f true e = rw e (accepted-size (pageFor s w) s f)
-drawn-by s w f false e = let l = refusal-size s (74 * w) in rw e (omega (arith, l))
+drawn-by metric s w f true e = rw e (accepted-size (pageFor s w) s metric f)
+drawn-by metric s w f false e = let l = refusal-size s (74 * w) in rw e (omega (arith, l))
 
 -- a list has at most 512 W lines, and its page is in bounds
-pub drawing-size : (s : List ℕ) → length (drawing s) ≤ 300000
+pub drawing-size : (metric : Bool) (s : List ℕ) → length (drawing metric s) ≤ 300000
 unfolding drawing pieces
-drawing-size s = drawn-by s (linesFrom 512 87 74 s 0) (page-in-bounds s (linesFrom 512 87 74 s 0) (lines-few 512 87 74 s 0)) _ refl
+drawing-size metric s = drawn-by metric s (linesFrom 512 87 74 s 0) (page-in-bounds s (linesFrom 512 87 74 s 0) (lines-few 512 87 74 s 0)) _ refl
 
-pub drawn-there : (s out o : List ℕ) (n w : ℕ) → length out ≡ 300000 → w ≡ linesFrom 512 87 74 s 0
-    → _≡_ {A = Put} (record { at = n; out = o }) (emits (drawnFrom s w) (record { at = 0; out = out }))
-    → (_≡_ {A = ℕ × List ℕ} (n, o) (drawnIn out s)) × (n ≤ 300000)
+pub drawn-there : (metric : Bool) (s out o : List ℕ) (n w : ℕ) → length out ≡ 300000 → w ≡ linesFrom 512 87 74 s 0
+    → _≡_ {A = Put} (record { at = n; out = o }) (emits (drawnFrom metric s w) (record { at = 0; out = out }))
+    → (_≡_ {A = ℕ × List ℕ} (n, o) (drawnIn metric out s)) × (n ≤ 300000)
 unfolding drawing pieces
-drawn-there s out o n w l e h =
-    let z : length (drawing s) ≤ 300000 = drawing-size s in
-    let r = (rw e at h) ∙ emits-room (pieces s) (record { at = 0; out = out }) (omega (arith, z)) in
-    let f : n ≡ length (drawing s) = omega (arith, ap (λ (p : Put). p .at) r) in
+drawn-there metric s out o n w l e h =
+    let z : length (drawing metric s) ≤ 300000 = drawing-size metric s in
+    let r = (rw e at h) ∙ emits-room (pieces metric s) (record { at = 0; out = out }) (omega (arith, z)) in
+    let f : n ≡ length (drawing metric s) = omega (arith, ap (λ (p : Put). p .at) r) in
     (rw (f, ap (λ (p : Put). p .out) r) refl, omega arith)

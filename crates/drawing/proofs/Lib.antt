@@ -6,3 +6,4 @@ mod Layers
 mod Room
 pub mod Sizes
 mod Lengths
+pub mod NearestHundredths

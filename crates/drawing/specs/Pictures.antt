@@ -1,6 +1,6 @@
--- RULES 7.10: the whole drawing of a list: the plate's picture, or the refusal in words.
+-- RULES 7.10, 7.12: the whole drawing of a list: the plate's picture, or the refusal in words; metric or not, which the list does not say.
 use Prim.Native.Nat.{ℕ, _+_, _-_, _*_, _/_, _%_}
-use mathlib.Core.Bool.{cond}
+use mathlib.Core.Bool.{Bool, cond}
 use mathlib.Core.List.{List, [], _∷_, _++_}
 use lib.Dec.{eqb}
 use lib.ListN.{length}
@@ -24,14 +24,36 @@ head s width height = filled (ascii "<svg xmlns=\"http://www.w3.org/2000/svg\" w
 unfoldable pub points : List ℕ → ℕ → List (List ℕ)
 points s n = cond (eqb (n % 32) 0) (filled (ascii "~0 pt") s 0 ((n / 32) ∷ [])) (filled (ascii "~0 ~1/32 pt") s 0 ((n / 32) ∷ (n % 32) ∷ []))
 
--- the plate's width and height, in points and in ticks
-unfoldable pub title : Page → List ℕ → List (List ℕ)
-title p s =
+-- ---- RULES 7.12: millimetres
+-- n steps, of which a point has so many, in hundredths of one: the nearest number, a half upward; 635 are 18 points
+unfoldable pub hundredths : ℕ → ℕ → ℕ
+hundredths perPoint n = (635 * n + 9 * perPoint) / (18 * perPoint)
+
+-- n ticks with two decimals
+unfoldable pub millimetres : List ℕ → ℕ → List (List ℕ)
+millimetres s n = filled (ascii "~0.~1~2 mm") s 0 ((hundredths 32 n / 100) ∷ (hundredths 32 n / 10 % 10) ∷ (hundredths 32 n % 10) ∷ [])
+
+-- the plate's width and height, marked as rounded; only a metric sheet's are given
+unfoldable pub sizeInMillimetres : Page → List ℕ → List (List ℕ)
+sizeInMillimetres p s =
+    filled (ascii " (") s 0 []
+    ++ (millimetres s (p .width)
+    ++ (filled (ascii " &#215; ") s 0 []
+    ++ (millimetres s (p .height)
+    ++ filled (ascii ", rounded)") s 0 [])))
+
+unfoldable pub inMillimetres : Bool → Page → List ℕ → List (List ℕ)
+inMillimetres metric p s = cond metric (sizeInMillimetres p s) []
+
+-- RULES 7.10, 7.12: the plate's width and height, in points, in millimetres and in ticks
+unfoldable pub title : Bool → Page → List ℕ → List (List ℕ)
+title metric p s =
     filled (ascii "<text class=\"title\" x=\"60\" y=\"34\">Plate ") s 0 []
     ++ (points s (p .width)
     ++ (filled (ascii " &#215; ") s 0 []
     ++ (points s (p .height)
-    ++ filled (ascii "</text>\n<text x=\"60\" y=\"56\">~0 &#215; ~1 ticks; left $0, top $1, right $2, bottom $3; controls: ~2; a tick is 1/32 pt</text>\n") s (plateAt p) (p .width ∷ p .height ∷ p .widgets ∷ []))))
+    ++ (inMillimetres metric p s
+    ++ filled (ascii "</text>\n<text x=\"60\" y=\"56\">~0 &#215; ~1 ticks; left $0, top $1, right $2, bottom $3; controls: ~2; a tick is 1/32 pt</text>\n") s (plateAt p) (p .width ∷ p .height ∷ p .widgets ∷ [])))))
 
 -- ---- RULES 7.10: the picture
 abbrev pub gridWidgets : Page → ℕ
@@ -83,8 +105,8 @@ key p s =
     ++ (each RowRows p s (p .rows) 0
     ++ filled (ascii "</svg>\n") s 0 []))))
 
-unfoldable pub accepted : Page → List ℕ → List (List ℕ)
-accepted p s = head s (pageWidth p) (pageHeight p) ++ (title p s ++ (picture p s ++ key p s))
+unfoldable pub accepted : Bool → Page → List ℕ → List (List ℕ)
+accepted metric p s = head s (pageWidth p) (pageHeight p) ++ (title metric p s ++ (picture p s ++ key p s))
 
 -- ---- RULES 7.10: a refusal, in words
 unfoldable pub reason : ℕ → List ℕ
@@ -112,15 +134,15 @@ refusal s line =
     ++ filled (ascii "</text>\n</svg>\n") s 0 []))
 
 -- ---- RULES 7.10: the drawing of a list, whose W lines come first
-unfoldable pub drawnFrom : List ℕ → ℕ → List (List ℕ)
-drawnFrom s widgets = cond (isLine letters.P 34 s (74 * widgets)) (accepted (pageFor s widgets) s) (refusal s (74 * widgets))
+unfoldable pub drawnFrom : Bool → List ℕ → ℕ → List (List ℕ)
+drawnFrom metric s widgets = cond (isLine letters.P 34 s (74 * widgets)) (accepted metric (pageFor s widgets) s) (refusal s (74 * widgets))
 
-unfoldable pub pieces : List ℕ → List (List ℕ)
-pieces s = drawnFrom s (linesFrom 512 letters.W 74 s 0)
+unfoldable pub pieces : Bool → List ℕ → List (List ℕ)
+pieces metric s = drawnFrom metric s (linesFrom 512 letters.W 74 s 0)
 
-unfoldable pub drawing : List ℕ → List ℕ
-drawing s = joined (pieces s)
+unfoldable pub drawing : Bool → List ℕ → List ℕ
+drawing metric s = joined (pieces metric s)
 
 -- its length, and a slice with the drawing from its start, every other place as it was
-abbrev pub drawnIn : List ℕ → List ℕ → ℕ × List ℕ
-drawnIn out s = (length (drawing s), sets out 0 (drawing s))
+abbrev pub drawnIn : Bool → List ℕ → List ℕ → ℕ × List ℕ
+drawnIn metric out s = (length (drawing metric s), sets out 0 (drawing metric s))

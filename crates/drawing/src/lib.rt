@@ -2,6 +2,7 @@
 mod controls;
 mod elements;
 mod lists;
+mod millimetres;
 mod pages;
 pub mod picture;
 mod rows;

@@ -21,12 +21,12 @@ ghost use Rattle.drawing.specs.Pieces.{emits, filled};
 ghost use Rattle.drawing.specs.Pages.{InBounds};
 ghost use Rattle.drawing.specs.Pictures.{accepted, reason, refusalNumber, refusal, drawnFrom, drawnIn};
 
-fn put_accepted(out: &mut [u8], at: usize, page: Page, list: &[u8]) -> usize
+fn put_accepted(out: &mut [u8], at: usize, metric: bool, page: Page, list: &[u8]) -> usize
     requires { ⌜ InBounds page ⌝ }
-    ensures { λ r. ⌜ record { at = r; out = now (out .exit) } ≡ emits (accepted page (now (list .entry))) (record { at = at; out = now (out .entry) }) ⌝ }
+    ensures { λ r. ⌜ record { at = r; out = now (out .exit) } ≡ emits (accepted metric page (now (list .entry))) (record { at = at; out = now (out .entry) }) ⌝ }
 {
     let first = put_head(out, at, list, page_width(page), page_height(page));
-    let title = put_title(out, first, page, list);
+    let title = put_title(out, first, metric, page, list);
     let plate = put_picture(out, title, page, list);
     put_key(out, plate, page, list)
 }
@@ -112,19 +112,20 @@ fn put_refusal(out: &mut [u8], at: usize, list: &[u8], line: usize) -> usize
     put_words(out, words, b"</text>\n</svg>\n", list)
 }
 
-fn put_drawn(out: &mut [u8], list: &[u8], widgets: usize) -> usize
+fn put_drawn(out: &mut [u8], metric: bool, list: &[u8], widgets: usize) -> usize
     requires { ⌜ widgets ≤ 512 ⌝ }
-    ensures { λ r. ⌜ record { at = r; out = now (out .exit) } ≡ emits (drawnFrom (now (list .entry)) widgets) (record { at = 0; out = now (out .entry) }) ⌝ }
+    ensures { λ r. ⌜ record { at = r; out = now (out .exit) } ≡ emits (drawnFrom metric (now (list .entry)) widgets) (record { at = 0; out = now (out .entry) }) ⌝ }
 {
     if is_line(list, 74 * widgets, b'P', 34) {
-        return put_accepted(out, 0, page_for(list, widgets), list);
+        return put_accepted(out, 0, metric, page_for(list, widgets), list);
     }
     put_refusal(out, 0, list, 74 * widgets)
 }
 
-// Writes the drawing of a list from the slice's start, and answers its length. The rest of the slice stays as it was.
-pub fn draw(list: &[u8], out: &mut [u8; MAX_DRAWING]) -> usize
-    ensures { λ n. ⌜ ((n, now (out .exit)) ≡ drawnIn (now (out .entry)) (now (list .entry))) × (n ≤ 300000) ⌝ }
+// Writes the drawing of a list from the slice's start, and answers its length. The rest of the slice stays as it was. The plate of a metric
+// sheet is given in millimetres too: its list does not say so.
+pub fn draw(metric: bool, list: &[u8], out: &mut [u8; MAX_DRAWING]) -> usize
+    ensures { λ n. ⌜ ((n, now (out .exit)) ≡ drawnIn metric (now (out .entry)) (now (list .entry))) × (n ≤ 300000) ⌝ }
 {
-    put_drawn(out, list, count_lines(list, 0, b'W', 74, 512))
+    put_drawn(out, metric, list, count_lines(list, 0, b'W', 74, 512))
 }

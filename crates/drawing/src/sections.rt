@@ -1,6 +1,7 @@
 // The parts of a page: its head, the plate's sizes, the scale, the list's rows.
 use crate::Layer;
 use crate::Page;
+use crate::millimetres::put_in_millimetres;
 use crate::pages::bar_of;
 use crate::pages::bottom;
 use crate::pages::px;
@@ -54,10 +55,10 @@ fn put_points(out: &mut [u8], at: usize, list: &[u8], n: usize) -> usize
     put_filled(out, at, b"~0 ~1/32 pt", list, 0, &numbers)
 }
 
-// The plate's width and height, in points and in ticks.
-pub fn put_title(out: &mut [u8], at: usize, page: Page, list: &[u8]) -> usize
+// The plate's width and height, in points and in ticks, and of a metric sheet in millimetres.
+pub fn put_title(out: &mut [u8], at: usize, metric: bool, page: Page, list: &[u8]) -> usize
     requires { ⌜ InBounds page ⌝ }
-    ensures { λ r. ⌜ record { at = r; out = now (out .exit) } ≡ emits (title page (now (list .entry))) (record { at = at; out = now (out .entry) }) ⌝ }
+    ensures { λ r. ⌜ record { at = r; out = now (out .exit) } ≡ emits (title metric page (now (list .entry))) (record { at = at; out = now (out .entry) }) ⌝ }
 {
     let first = put_words(
         out,
@@ -68,10 +69,11 @@ pub fn put_title(out: &mut [u8], at: usize, page: Page, list: &[u8]) -> usize
     let wide = put_points(out, first, list, page.width);
     let by = put_words(out, wide, b" &#215; ", list);
     let tall = put_points(out, by, list, page.height);
+    let after = put_in_millimetres(out, tall, metric, page, list);
     let numbers = [page.width, page.height, page.widgets];
     put_filled(
         out,
-        tall,
+        after,
         b"</text>\n<text x=\"60\" y=\"56\">~0 &#215; ~1 ticks; left $0, top $1, right $2, bottom $3; controls: ~2; a tick is 1/32 pt</text>\n",
         list,
         74 * page.widgets,

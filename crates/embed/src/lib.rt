@@ -13,7 +13,7 @@ use sheet::passing::pass;
 use sheet_drawing::draw_sheet;
 ghost use mathlib.Core.Path.{_≡_};
 ghost use Prim.Native.Nat.{_≤_};
-ghost use Rattle.drawing.specs.Pictures.{drawnIn};
+ghost use Rattle.sheet_drawing.specs.SheetDrawings.{sheetDrawnIn};
 ghost use Rattle.listing.specs.Lists.{listOf, settled};
 ghost use Rattle.grid.specs.Memories.{memoryOf};
 ghost use Rattle.embed.specs.Calls.{exported, onePass, listInto};
@@ -73,7 +73,7 @@ pub extern "C" fn platelist_list(text: &[u8], out: &mut [u8]) -> usize
 // The drawing, an SVG, from the array's front on, and its length, at most MAX_DRAWING.
 #[no_mangle]
 pub extern "C" fn platelist_draw(text: &[u8], out: &mut [u8; MAX_DRAWING]) -> usize
-    ensures { λ n. ⌜ ((n, now (out .exit)) ≡ drawnIn (now (out .entry)) (listOf (now (text .entry)))) × (n ≤ 300000) ⌝ }
+    ensures { λ n. ⌜ ((n, now (out .exit)) ≡ sheetDrawnIn (now (out .entry)) (now (text .entry))) × (n ≤ 300000) ⌝ }
 {
     draw_sheet(text, out)
 }

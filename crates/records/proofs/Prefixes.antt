@@ -9,7 +9,7 @@ use native.Mathlib.Nat.{zero-add, min-eq-left, min-le-left}
 use borrow.Author.Tests.{leb-true, leb-false, le-leb, lt-leb}
 use lib.Dec.{leb, eqb}
 use lib.ListN.{length, take, drop, length-take, length-drop}
-use lib.Seq.{getD-take, take-take, take-nil, length-take-le}
+use lib.Seq.{getD-take, take-take, take-nil, take-all, length-take-le}
 use Rattle.emath.specs.Numbers as number
 use Rattle.text.specs.Fields.{fieldAt}
 use Rattle.text.specs.Letters as letters
@@ -299,3 +299,10 @@ long-text s room h =
       heading = g;
       steps = r;
     }
+
+pub long-unit : (s : List ℕ) → hasUnit (take 50177 s) ≡ hasUnit s
+long-unit s = go (leb (length s) 50177) refl
+  where
+    go : (b : Bool) → leb (length s) 50177 ≡ b → hasUnit (take 50177 s) ≡ hasUnit s
+    go true e = ap hasUnit (take-all 50177 s (leb-true (length s) 50177 e))
+    go false e = has-unit-same 50177 s (omega (arith, leb-false (length s) 50177 e)) (omega arith)

@@ -57,7 +57,7 @@ fn steps_at(text: &[u8]) -> usize
     past(text, b'G', grid_at(text))
 }
 
-fn has_unit(text: &[u8]) -> bool
+pub fn has_unit(text: &[u8]) -> bool
     ensures { λ b. ⌜ b ≡ hasUnit (now (text .entry)) ⌝ }
 {
     stands(text, b'M', unit_at(text))

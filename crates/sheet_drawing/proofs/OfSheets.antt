@@ -7,7 +7,10 @@ use lib.ListN.{length, take, drop}
 use lib.Seq.{sets, sets-eq, take-at, length-sets}
 use Rattle.listing.specs.Lists.{listOf, listIn}
 use Rattle.listing.proofs.LongTexts.{long-list}
-use Rattle.drawing.specs.Pictures.{drawing, drawnIn}
+use Rattle.records.specs.Headings.{hasUnit}
+use Rattle.records.proofs.Prefixes.{long-unit}
+use Rattle.drawing.specs.Pictures.{drawing}
+use Rattle.sheet_drawing.specs.SheetDrawings.{sheetDrawing, sheetDrawnIn}
 
 -- what was written from the start is what the first bytes are
 written-first : (l xs : List ℕ) → length xs ≤ length l → take (length xs) (sets l 0 xs) ≡ xs
@@ -19,8 +22,9 @@ list-written n o l text e h =
     let g : o ≡ sets l 0 (listOf text) = ap (λ (x : ℕ × List ℕ). x .1) e in
     rw (f, g) (written-first l (listOf text) (omega arith))
 
-pub same-room : (n : ℕ) (o out s : List ℕ) → _≡_ {A = ℕ × List ℕ} (n, o) (drawnIn out s) → length o ≡ length out
-same-room n o out s e = ap (λ (x : ℕ × List ℕ). length (x .1)) e ∙ length-sets out 0 (drawing s)
+pub same-room : (n : ℕ) (o out text : List ℕ) → _≡_ {A = ℕ × List ℕ} (n, o) (sheetDrawnIn out text) → length o ≡ length out
+same-room n o out text e = ap (λ (x : ℕ × List ℕ). length (x .1)) e ∙ length-sets out 0 (drawing (hasUnit text) (listOf text))
 
-pub long-drawing : (text : List ℕ) → drawing (listOf (take 50177 text)) ≡ drawing (listOf text)
-long-drawing text = ap drawing (long-list text)
+pub long-drawing : (text : List ℕ) → sheetDrawing (take 50177 text) ≡ sheetDrawing text
+unfolding sheetDrawing
+long-drawing text = rw (long-list text, long-unit text)

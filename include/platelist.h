@@ -28,7 +28,8 @@
 extern "C" {
 #endif
 
-/* Rectangles and plates are in ticks, so many to a point. */
+/* Rectangles and plates are in ticks, so many to a point; also those of a sheet whose controls are in
+ * hundredths of a millimetre (M). 635 of these are PLATELIST_TICKS_PER_POINT * 18 ticks. */
 #define PLATELIST_TICKS_PER_POINT 32
 
 /* A sheet has at most so many records. What stands after the first PLATELIST_TEXT bytes of a text
@@ -138,8 +139,8 @@ size_t platelist_list(
     const uint8_t *text, size_t length,
     uint8_t *out, size_t room);
 
-/* The drawing that program platedraw writes: an SVG of the plate, or of a refused sheet one that says
- * number, record and the condition in words.
+/* The drawing that program platedraw writes: an SVG of the plate, of a sheet with M with its size in
+ * millimetres too, or of a refused sheet one that says number, record and the condition in words.
  *
  * Answers the drawing's length. The drawing stands at the front of out, and every byte after it is
  * as it was. There is always room: no drawing is longer than PLATELIST_DRAWING. */

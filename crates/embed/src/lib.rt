@@ -14,7 +14,7 @@ use sheet_drawing::draw_sheet;
 ghost use mathlib.Core.Path.{_≡_};
 ghost use Prim.Native.Nat.{_≤_};
 ghost use Rattle.sheet_drawing.specs.SheetDrawings.{sheetDrawnIn};
-ghost use Rattle.listing.specs.Lists.{listOf, settled};
+ghost use Rattle.listing.specs.Lists.{settled};
 ghost use Rattle.grid.specs.Memories.{memoryOf};
 ghost use Rattle.embed.specs.Calls.{exported, onePass, listInto};
 

@@ -1,22 +1,22 @@
 -- The clause in the unit that a sheet has, and the widths of strips: of the rule, for steps of 1 to 1/64 point, and of the call that runs.
 -- Assumes nothing.
 use Prim.Native.Nat.{ℕ, _+_, _≤_}
-use mathlib.Core.Path.{_≡_, refl, ap, sym, _∙_, subst}
+use mathlib.Core.Path.{_≡_, refl, ap, _∙_, subst}
 use mathlib.Core.Bool.{Bool, true}
 use mathlib.Core.List.{List, [], _∷_, map, Forall₂, Forall₂·nil, Forall₂·cons}
 use native.Mathlib.Omega.{arith}
-use lib.IntN.{ℤ, pos, _+ℤ_, _-ℤ_}
+use lib.IntN.{ℤ, _+ℤ_, _-ℤ_}
 use lib.ListN.{length, length-map}
 use lib.Signed.{_≤ℤ_}
 use lib.Ieee.{Float, le}
 use Rattle.emath.specs.Steps.{tick, val}
-use Rattle.emath.proofs.Whole.{_≤ᶻ_, within-natAbs, sum, diff, same, whole, →leZ}
+use Rattle.emath.proofs.Whole.{sum, diff, same, whole}
 use Rattle.emath.proofs.Tests.{T-true}
 use Rattle.emath.proofs.Values.{val-le}
 use Rattle.emath.proofs.Sums.{edge-small}
 use Rattle.grid.specs.declared.Memory.{Memory}
 use Rattle.records.specs.Units.{fromHundredths, inSteps}
-use Rattle.records.specs.Conversions.{Near, stepParts, hundredthParts, total}
+use Rattle.records.specs.Conversions.{stepParts, total}
 use Rattle.records.specs.Controls.{onlyControls, Size, sizesIn, Measures, Sized}
 use Rattle.records.specs.declared.SizeUnit.{SizeUnit}
 use Rattle.records.specs.declared.SizeUnit.the-variants.{Steps, Hundredths}

@@ -1,6 +1,6 @@
 -- The first fault of a heading, test by test. Assumes nothing.
 use Prim.Native.Nat.{ℕ}
-use mathlib.Core.Path.{_≡_, refl, sym, _∙_}
+use mathlib.Core.Path.{_≡_, refl, sym}
 use mathlib.Core.List.{List}
 use mathlib.Core.Bool.{Bool, true, false, cond, not, true≢false}
 use Rattle.records.specs.Records.{headingFits}

@@ -1,5 +1,5 @@
 -- Hundredths of a millimetre in steps (RULES 6.25): the nearest, in order, with the sign. For every step. Assumes nothing.
-use Prim.Native.Nat.{ℕ, zero, suc, _+_, _*_, _^_, _≤_, _<_}
+use Prim.Native.Nat.{ℕ, zero, suc, _+_, _*_, _≤_, _<_}
 use mathlib.Core.Path.{_≡_, refl, ap, sym, _∙_}
 use mathlib.Core.List.{List, [], _∷_, map}
 use mathlib.Core.Logic.{_⊎_, inl, inr}
@@ -10,7 +10,7 @@ use lib.ListN.{length}
 use lib.Pow.{pow-mono}
 use lib.Signed.{_≤ℤ_, _<ℤ_}
 use Rattle.emath.specs.Steps.{tick}
-use Rattle.emath.proofs.Whole.{more, less, Within, within-natAbs, natAbs-within, _≤ᶻ_, sum, more-neg, less-neg, same, same-parts, order, ltZ→, →ltZ, whole}
+use Rattle.emath.proofs.Whole.{more, less, within-natAbs, natAbs-within, _≤ᶻ_, sum, more-neg, less-neg, same, same-parts, order, ltZ→, →ltZ, whole}
 use Rattle.records.specs.declared.SizeUnit.{SizeUnit}
 use Rattle.records.specs.declared.SizeUnit.the-variants.{Steps, Hundredths}
 use Rattle.records.specs.Units.{quarterInch, nearest, fromHundredths, inSteps}

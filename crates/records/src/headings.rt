@@ -17,8 +17,7 @@ ghost use mathlib.Core.Bool.{true, cond};
 ghost use Prim.Native.Nat.{_+_, _≤_};
 ghost use lib.ListN.{length, drop};
 ghost use Rattle.text.specs.Letters as letters;
-ghost use Rattle.records.specs.Parts.{ends as endsWith};
-ghost use Rattle.records.specs.Records.{optionsIn, gridFits};
+ghost use Rattle.records.specs.Records.{optionsIn};
 ghost use Rattle.records.specs.declared.SizeUnit.the-variants.{Steps, Hundredths};
 ghost use Rattle.records.specs.Headings.{stands as standsAt, one, past as pastAt, unitAt, gridAt, stepsAt, hasUnit, hasGrid, noOptions, headingIn, unitFits, optionsFit, headingFault};
 

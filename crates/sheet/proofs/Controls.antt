@@ -1,21 +1,17 @@
 -- The W of a sheet of controls have the sizes that its text says, one by one (RULES 6.26). Assumes nothing.
 use Prim.Native.Nat.{ℕ, zero, suc, _+_, _<_}
-use mathlib.Core.Path.{_≡_, refl, sym, _∙_}
+use mathlib.Core.Path.{_≡_, sym, _∙_}
 use mathlib.Core.Bool.{Bool, true, false, cond, true≢false}
 use mathlib.Core.List.{List, [], _∷_}
 use native.Mathlib.Omega.{arith}
-use lib.Dec.{eqb}
 use lib.ListN.{drop}
 use Rattle.emath.specs.Steps.{tick}
-use Rattle.records.specs.Parts.{letter}
-use Rattle.records.specs.Records.{recordOf, rest}
+use Rattle.records.specs.Records.{rest}
 use Rattle.records.specs.Headings.{headingIn}
 use Rattle.records.specs.Sheets.{recordsFrom, stepsLeft, records, wrongFrom}
 use Rattle.records.specs.Controls.{onlyControls, Size, sizeOf, sizesFrom, sizesIn, Sized}
 use Rattle.records.specs.declared.SizeUnit.{SizeUnit}
-use Rattle.records.specs.declared.Step.{Step}
 use Rattle.records.specs.declared.Record.{Record}
-use Rattle.records.specs.declared.Record.the-variants as record-of
 use Rattle.records.proofs.Controls.{Read, read}
 use Rattle.sheet.specs.Texts.{stepsOf, sheetIn}
 

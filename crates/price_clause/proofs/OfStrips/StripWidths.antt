@@ -1,29 +1,25 @@
 -- How wide the plate of a strip is (`strip-width` of UnitClause): from the first frame's left to the last one's right, which is where the
 -- cursor comes to, less one spacing. For steps of 1 to 1/64 point. Assumes nothing.
-use mathlib.Core.Path.{_≡_, refl, sym, ap, _∙_}
-use mathlib.Core.Bool.{Bool, true, false}
-use mathlib.Core.List.{List, [], _∷_, _++_, map}
+use mathlib.Core.Path.{_≡_, refl, ap, _∙_}
+use mathlib.Core.Bool.{Bool}
+use mathlib.Core.List.{List, [], _∷_}
 use Prim.Native.Nat.{ℕ, zero, suc, _+_, _-_, _*_, _≤_, _<_}
 use native.Mathlib.Omega.{arith}
 use native.Mathlib.Nat.{add-mul}
 use lib.IntN.{ℤ, pos, _+ℤ_, _-ℤ_, _*ℤ_}
 use lib.ListN.{length}
-use lib.Signed.{_≤ℤ_}
 use lib.Ieee.{Float, le}
 use Rattle.emath.specs.Rectangles.{zeroF}
-use Rattle.emath.specs.Refusals.{rectFault}
 use Rattle.emath.specs.Steps.{val, Edge}
 use Rattle.emath.proofs.Whole.{more, less, _≤ᶻ_, sum, diff, same, order, whole}
 use Rattle.emath.proofs.Sums.{edge-small}
 use Rattle.emath.specs.declared.Vec2.{Vec2}
 use Rattle.emath.specs.declared.Align.{Align}
-use Rattle.layout.proofs.Strips.{rectIn}
 use Rattle.records.specs.Units.{inSteps}
 use Rattle.records.specs.Conversions.{total}
 use Rattle.records.specs.Controls.{Size, Measures, Sized}
 use Rattle.records.specs.declared.SizeUnit.{SizeUnit}
 use Rattle.records.specs.declared.Step.{Step}
-use Rattle.records.specs.declared.Step.the-variants.{Widget, RowEnd}
 use Rattle.records.proofs.Hundredths.{more-times, less-times}
 use Rattle.records.specs.Sheets.{widgetStep}
 use Rattle.records.specs.declared.Heading.{Heading}
@@ -43,7 +39,7 @@ use Rattle.pass_laws.specs.EachCell.{EachCell}
 use Rattle.pass_laws.specs.Plates.{Holds, HoldsFrames, Smallest}
 use Rattle.price_clause.specs.UnitClause.{spacings, stepWidths}
 use Rattle.price_clause.proofs.OfStrips.StripPlaces.{Place, placerAt, Few, Sound, le-steps, zero-steps, startOf, strip-starts}
-use Rattle.price_clause.proofs.OfStrips.StripSteps.{pastControl, Goes, ControlGoes, row-end-goes, control-goes}
+use Rattle.price_clause.proofs.OfStrips.StripSteps.{pastControl, row-end-goes, control-goes}
 use Rattle.price_clause.proofs.OfStrips.Strips.{ticks-is, ticks-rect}
 
 -- ---- where the cursor comes to from x, past controls of these widths with s after each

@@ -1,5 +1,4 @@
 -- `drawing::millimetres::hundredths` meets its contract. Assumes nothing.
-use native.Mathlib.Omega.{arith}
 use mathlib.Core.Path.{refl}
 use Rattle.drawing.specs.Pictures.{hundredths}
 use borrow.Author.Needs.{needs}

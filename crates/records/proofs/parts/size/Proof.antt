@@ -1,5 +1,5 @@
 -- `records::parts::size` meets its contract. Assumes nothing.
-use mathlib.Core.Path.{_≡_, ap}
+use mathlib.Core.Path.{_≡_}
 use mir.Val.{toZ, ofZ}
 use mir.Syntax.{w32}
 use Rattle.records.specs.Parts.{measured}

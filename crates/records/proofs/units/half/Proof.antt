@@ -1,7 +1,6 @@
 -- `records::units::half` meets its contract. Assumes nothing.
 use mir.Syntax.{w32}
 use mir.ValLaws.{toZ-ofZ}
-use borrow.Author.Needs.{needs}
 use Rattle.records.proofs.units.half.Statement.{statement}
 use Rattle.records.proofs.units.half.Tie as tie
 

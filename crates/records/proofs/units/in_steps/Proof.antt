@@ -1,12 +1,8 @@
 -- `records::units::in_steps` meets its contract. Assumes nothing.
-use native.Mathlib.Omega.{arith}
-use Prim.Native.Nat.{_≤_}
-use lib.IntN.{natAbs}
-use mathlib.Core.Path.{_≡_, refl, ap, sym, _∙_}
+use mathlib.Core.Path.{_≡_}
 use mir.Syntax.{w32}
 use mir.Val.{toZ, ofZ}
 use mir.ValLaws.{toZ-ofZ}
-use Rattle.emath.specs.Steps.{tick}
 use Rattle.records.specs.Units.{inSteps}
 use Rattle.records.proofs.Hundredths.{few-steps}
 use borrow.Author.Needs.{needs}

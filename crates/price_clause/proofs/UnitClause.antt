@@ -46,6 +46,18 @@ unfolding inSteps
 in-order k Steps y z h = h
 in-order k Hundredths y z h = converts k .order y z h
 
+-- ---- alike, and so sheets of controls
+alike-only : {a b : List Step} → Alike a b → (onlyControls a ≡ true) × (onlyControls b ≡ true)
+unfolding onlyControls
+alike-only Alike.none = (refl, refl)
+alike-only (Alike.control s) = alike-only s
+alike-only (Alike.rowEnd s) = alike-only s
+
+alike : {a b : List Step} → Grown a b → Alike a b
+alike Grown.none = Alike.none
+alike (Grown.control w h g) = Alike.control (alike g)
+alike (Grown.rowEnd g) = Alike.rowEnd (alike g)
+
 module _ (k : ℕ) (l : k ≤ 6) where
   measured-le : {u : SizeUnit} {y z : ℤ} {x x′ : Float} → Measures k u y x → Measures k u z x′ → y ≤ℤ z → le x x′ ≡ true
   measured-le {u} {y} {z} m n h =
@@ -81,6 +93,7 @@ module _ (k : ℕ) (l : k ≤ 6) where
 
   pub unit-clause : UnitClause k
   unit-clause = record {
+    controls = λ g. alike-only (alike g);
     grown = grows;
     strip-width = strip-wide k l;
     margin = λ s W T N sizes Z known m sizing e. in-margin (width (inTicks k (pass k s known m sizing .plate))) (ticks k (s .heading .spacing .x)) sizes (strip-wide k l s W T N Hundredths sizes Z known m sizing e);
@@ -91,12 +104,6 @@ module _ (k : ℕ) (l : k ≤ 6) where
 read-well : (text : List ℕ) (known : Bool) (m : Memory) (sizing : Bool) (out exit : List ℤ) (p : Passed) → Called text known m sizing out p exit → p .laid ≡ Accepted
     → wrongFrom (headingIn text .records + 1) (records text) ≡ 0
 read-well text known m sizing out exit p c a = let (r, w, e) = not-turned-back text known m sizing out p exit c a in clear text (length out) r w e .steps
-
-alike-only : {a b : List Step} → Alike a b → (onlyControls a ≡ true) × (onlyControls b ≡ true)
-unfolding onlyControls
-alike-only Alike.none = (refl, refl)
-alike-only (Alike.control s) = alike-only s
-alike-only (Alike.rowEnd s) = alike-only s
 
 grown-text : (a b : List ℕ) → GrownText a b → wrongFrom (headingIn a .records + 1) (records a) ≡ 0 → wrongFrom (headingIn b .records + 1) (records b) ≡ 0 → GrownSheet (sheetIn a) (sheetIn b)
 grown-text a b g h h′ =

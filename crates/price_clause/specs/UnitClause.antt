@@ -63,6 +63,8 @@ Margin k wide gap zs = Near (317 * length zs) (stepParts wide -ℤ stepParts (sp
 
 -- ---- of the rule
 pub record UnitClause (k : ℕ) : Type 0 where
+  -- RULES 6.26, 10.3: sheets that are alike but for larger controls are sheets of controls
+  pub controls : {a b : List Step} → Grown a b → (onlyControls a ≡ true) × (onlyControls b ≡ true)
   -- RULES 10.13: what is larger as it is written is a larger control, so that two such sheets are grown as the price clause asks
   pub grown : (u : SizeUnit) {sizes sizes′ : List Size} {a b : List Step} → Sized k u sizes a → Sized k u sizes′ b → Alike a b → Forall₂ NoSmaller sizes sizes′ → Grown a b
   -- RULES 10.14: the plate of a strip is as wide as its controls together and the spacings between them

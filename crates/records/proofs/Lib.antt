@@ -5,6 +5,7 @@ mod HeadingFaults
 pub mod Hundredths
 mod HundredthTicks
 pub mod Reached
+mod RecordPrefixes
 pub mod Prefixes
 pub mod Checks
 pub mod SizeCache

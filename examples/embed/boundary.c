@@ -1,5 +1,6 @@
 /* What include/platelist.h promises at the boundary, tried: slices that are short or exactly full,
- * memories that are given, faulty or not looked at, and what a refusal leaves as it was. */
+ * memories that are given, faulty or not looked at, sizes in hundredths of a millimetre, and what a
+ * refusal leaves as it was. */
 #include <math.h>
 #include <stdio.h>
 #include <stdlib.h>
@@ -9,6 +10,7 @@
 
 #define MARK 77
 #define HEADING "H       0       0       0       0       0       0       0       0    6400    3200     256     128\n"
+#define METRIC "M\n"
 #define GRID "G     320     160                               0\n"
 #define CONTROL "W     640     160\n"
 #define SMALLER "W     100     161\n"
@@ -122,6 +124,21 @@ static void memories(void) {
     expect(pass(HEADING GRID CONTROL, true, false, 24, &l) == PLATELIST_GRID_FULL && l.record == 2 && same_memory(&l, &given), "33 columns are 8 at the G");
 }
 
+/* With M the fields of a control are hundredths of a millimetre, 635 of them 576 ticks, and nothing else is. */
+static void hundredths(void) {
+    struct lent l = marked();
+    expect(settle(HEADING METRIC "W     635    1270\n", 24, &l) == PLATELIST_ACCEPTED && edges_are(l.places, 0, 0, 576, 1152) && edges_are(l.plate, 0, 0, 576, 1152),
+           "635 hundredths of a millimetre are 576 ticks");
+    l = marked();
+    expect(settle(HEADING METRIC GRID "W     113     522\n", 24, &l) == PLATELIST_ACCEPTED && edges_are(l.places, 0, 0, 320, 473) && edges_are(l.places + 4, 0, 0, 103, 473),
+           "the nearest ticks, and a grid's least cell is in ticks");
+    l = marked();
+    expect(settle(HEADING METRIC NEGATIVE, 24, &l) == PLATELIST_NEGATIVE && l.record == 3, "-1 hundredth keeps its sign: 6 at record 3");
+    expect(settle(HEADING GRID METRIC, 24, &l) == PLATELIST_MALFORMED && l.record == 3, "an M after G is 1 at record 3");
+    expect(settle(HEADING METRIC METRIC, 24, &l) == PLATELIST_MALFORMED && l.record == 3, "and so is a second M");
+    expect(settle(HEADING "M \n", 24, &l) == PLATELIST_MALFORMED && l.record == 2, "an M with a space is 1 at record 2");
+}
+
 static void lists(void) {
     static const char sheet[] = HEADING CONTROL;
     static const char list[] = "W       2       0       0     640     160       0       0     640     160\nP       0       0     640     160\n";
@@ -147,6 +164,14 @@ static void drawings(void) {
     size_t drawn = platelist_draw((const uint8_t *)sheet, strlen(sheet), out);
     expect(drawn < PLATELIST_DRAWING && memcmp(out, "<svg ", 5) == 0 && memcmp(out + drawn - 7, "</svg>\n", 7) == 0, "a drawing is an SVG");
     expect(memcmp(out + drawn, marks, sizeof out - drawn) == 0, "nothing after the drawing is written");
+    static const char metric[] = HEADING METRIC "W     635    1270\n";
+    static const char title[] = " (6.35 mm &#215; 12.70 mm, rounded)</text>";
+    drawn = platelist_draw((const uint8_t *)metric, strlen(metric), out);
+    out[drawn] = 0;
+    expect(strstr((const char *)out, title) != NULL, "the drawing of a sheet with M has the plate in millimetres");
+    drawn = platelist_draw((const uint8_t *)sheet, strlen(sheet), out);
+    out[drawn] = 0;
+    expect(strstr((const char *)out, " mm") == NULL, "and that of another has not");
     size_t refused = platelist_draw(NULL, 0, out);
     expect(refused < drawn && memcmp(out, "<svg ", 5) == 0 && memcmp(out + refused - 7, "</svg>\n", 7) == 0, "a refused sheet has a drawing too");
 }
@@ -155,6 +180,7 @@ int main(void) {
     short_slices();
     refusals();
     memories();
+    hundredths();
     lists();
     drawings();
     printf("boundary: %d checks, %d failures\n", checks, failures);

@@ -4,7 +4,7 @@
 use Prim.Native.Nat.{ℕ}
 use mathlib.Core.Path.{_≡_, refl}
 use mathlib.Core.Bool.{true, false}
-use mathlib.Core.List.{List, [], _∷_, _++_, map}
+use mathlib.Core.List.{List, [], _∷_, _++_, map, Forall₂·nil, Forall₂·cons}
 use lib.IntN.{ℤ, pos, negsuc, _+ℤ_, _-ℤ_}
 use lib.ListN.{length}
 use Rattle.emath.specs.Rectangles as rectangles
@@ -56,7 +56,7 @@ use Rattle.records.specs.Writers.{H, M, W, S, E}
 use Rattle.records.specs.Conversions.{stepParts, hundredthParts, total}
 use Rattle.records.specs.Controls.{onlyControls, sizesIn}
 use Rattle.records.specs.declared.SizeUnit.the-variants.{Hundredths}
-use Rattle.price_clause.specs.UnitClause.{spacings, widths, Margin}
+use Rattle.price_clause.specs.UnitClause.{Alike, NoSmaller, GrownText, spacings, widths, Margin}
 use Rattle.price_clause.proofs.PriceClause.{price-clause}
 use Rattle.price_clause.proofs.OfCases.CaseTests.{found-as-expected}
 
@@ -99,6 +99,10 @@ settled text = passes 5 (sheetIn text) emptyMemory 1
 -- a strip with wrap or without, with this much between two controls
 abbrev pub metric : ℤ → ℤ → List ℕ → List ℕ
 metric wrap gap after = heading (pos 0) wrap (pos 0) (pos 640) (pos 3200) gap (pos 0) ++ (M ++ after)
+
+-- the same heading, without M
+abbrev pub inTickUnits : List ℕ → List ℕ
+inTickUnits after = heading (pos 0) (pos 0) (pos 0) (pos 640) (pos 3200) (pos 0) (pos 0) ++ after
 
 abbrev pub threeControls : ℤ → List ℕ
 threeControls w = W w (pos 635) ++ (E ++ (W w (pos 635) ++ W w (pos 635)))
@@ -164,6 +168,11 @@ pub record Computed : Type 0 where
   -- direction 1: a wider control starts further left
   pub right-to-left : Pair (rightToLeft (pos 10)) (rightToLeft (pos 20))
   pub further-left : (firstLeft (laid (rightToLeft (pos 10))) ≡ pos 6390) × (firstLeft (laid (rightToLeft (pos 20))) ≡ pos 6380)
+  -- the clause in hundredths of a millimetre can be met: three controls of 113 beside three of 522; and why both sheets have one unit: a
+  -- control of 600 ticks beside one of 635 hundredths, which is 576 ticks
+  pub metric-grown : GrownText (metric (pos 0) (pos 32) (threeControls (pos 113))) (metric (pos 0) (pos 32) (threeControls (pos 522)))
+  pub mixed-accepted : (laid (inTickUnits (W (pos 600) (pos 600))) .number ≡ 0) × (laid (metric (pos 0) (pos 0) (W (pos 635) (pos 635))) .number ≡ 0)
+  pub mixed-narrower : (width (inTicks 5 (laid (inTickUnits (W (pos 600) (pos 600))) .plate)) ≡ pos 600) × (width (inTicks 5 (laid (metric (pos 0) (pos 0) (W (pos 635) (pos 635))) .plate)) ≡ pos 576)
   -- the margin can be met, and is reached: three controls of 522 hundredths each, a row end among them and 32 ticks between two, are 951
   -- parts short; three of 113 are as much over
   pub metric-accepted : (laid (metric (pos 0) (pos 32) (threeControls (pos 522))) .number ≡ 0) × (laid (metric (pos 0) (pos 32) (threeControls (pos 113))) .number ≡ 0)
@@ -180,6 +189,9 @@ pub record Computed : Type 0 where
   pub ticks-beyond : MarginOf (strip (pos 640) (pos 480)) → ⊥
   -- a first pass with a memory: the second does not give back what it was given, 6 ticks and then 5
   pub unsettled : (rowsOf (given acrossZero tenTall) ≡ pos 6 ∷ []) × (rowsOf (givenThen acrossZero tenTall) ≡ pos 5 ∷ [])
+
+wider : NoSmaller (record { width = pos 113; height = pos 635 }) (record { width = pos 522; height = pos 635 })
+wider = record { width = record { le = tt }; height = record { le = tt } }
 
 pub computed : Computed
 unfolding rectangles.minF rectangles.maxF rectangles.translate rectangles.intersect rectangles.union rectangles.extendWithX rectangles.extendWithY rectangles.intersects rectangles.centred rectangles.alignedTo rectangles.alignOn rectangles.alignWithin rectangles.roundF rectangles.roundBy rectangles.roundRect domain.finite domain.within domain.bothOf domain.edgesOf domain.negative domain.insideOut refusals.lesser refusals.least refusals.orElse refusals.lengthFault refusals.pairFault refusals.edgesFault refusals.extentFault refusals.sizeFault refusals.rectFault refusals.outside steps.val directions.isHorizontal layouts.isRightToLeft layouts.isCenter layouts.isMax layouts.preferRightToLeft layouts.placement layouts.horizontalAlign layouts.verticalAlign layouts.align2 layouts.horizontalJustify layouts.verticalJustify regions.expandToIncludeRect regions.expandToIncludeX regions.expandToIncludeY layout-rules.alignSizeWithinRect layout-rules.initialCursor layout-rules.fromCursor layout-rules.notNegative layout-rules.notNegativeRect layout-rules.availableFromCursorMaxRect layout-rules.availableRectBeforeWrap layout-rules.availableSize layout-rules.overflows layout-rules.newRow layout-rules.newColumn layout-rules.newCursor layout-rules.reaching layout-rules.newRegion layout-rules.fillsWidth layout-rules.fillsHeight layout-rules.frameWidth layout-rules.frameHeight layout-rules.frameAlign2 layout-rules.movedDown layout-rules.frameRect layout-rules.nextFrameIgnoreWrap layout-rules.wraps layout-rules.nextFrame layout-rules.raised layout-rules.justifyAndAlign layout-rules.nextWidgetSpaceIgnoreWrapJustify layout-rules.nextWidgetPosition layout-rules.regionFromMaxRect layout-rules.advanceCursor layout-rules.staysInRow layout-rules.rowStarted layout-rules.grownAcross layout-rules.rowFor layout-rules.pastWidget layout-rules.advanceAfterRects layout-rules.nextRow layout-rules.endRow layout-rules.setRowHeight layout-refusals.zeroIfOpen layout-refusals.closed layout-refusals.cursorFault layout-refusals.regionFault layout-refusals.rectAnswer layout-refusals.posAnswer layout-refusals.sizeAnswer layout-refusals.regionAnswer layout-refusals.cursorAnswer layout-refusals.rectNumber layout-refusals.rectValue layout-refusals.posNumber layout-refusals.posValue layout-refusals.sizeNumber layout-refusals.sizeValue entries.entry entries.cleared entries.raised entries.totalFrom entries.sameEntries entries.entriesFault entries.zeros memories.capped memories.raisedCount memories.setMinColWidth memories.setMinRowHeight memories.colWidth memories.rowHeight memories.fullWidth memories.sameMemory grids.knownMemory grids.newGrid grids.prevColWidth grids.prevRowHeight grids.lastWidth grids.otherWidth grids.cellWidth grids.cellHeight grids.availableRect grids.nextWidth grids.nextCell grids.alignSizeWithinRect grids.noted grids.advanced grids.advance grids.rowEnded grids.endRow grids.save grid-refusals.memoryFault grid-refusals.maxCellFault grid-refusals.gridFault grid-refusals.fitsGrid grid-refusals.directionFault grid-refusals.movedFault grid-refusals.memoryAnswer grid-refusals.gridAnswer grid-refusals.movedAnswer grid-refusals.savedAnswer grid-refusals.lengthAnswer grid-refusals.entryAnswer grid-refusals.lengthNumber grid-refusals.lengthValue grid-operations.checkedSetMinColWidth grid-operations.checkedSetMinRowHeight grid-operations.checkedColWidth grid-operations.checkedRowHeight grid-operations.checkedFullWidth grid-operations.checkedNew grid-operations.checkedPrevColWidth grid-operations.checkedPrevRowHeight grid-operations.checkedAvailableRect grid-operations.checkedNextCell grid-operations.checkedAlignSizeWithinRect grid-operations.checkedAdvance grid-operations.checkedEndRow grid-operations.checkedSave placer-rules.newPlacer placer-rules.saveGrid placer-rules.forceSetMinRect placer-rules.setCursor placer-rules.alignSizeWithinRect placer-rules.available placer-rules.availableRectBeforeWrap placer-rules.availableSize placer-rules.nextSpace placer-rules.nextWidgetPosition placer-rules.justifyAndAlign placer-rules.advanceCursor placer-rules.expandToIncludeRect placer-rules.expandToIncludeX placer-rules.expandToIncludeY placer-rules.movedPast placer-rules.advanceAfterRects placer-rules.endRow placer-rules.setRowHeight placer-rules.nextWidgetSpaceIgnoreWrapJustify placer-rules.limitedAcross placer-rules.limitedDown placer-rules.setMaxWidth placer-rules.setMaxHeight placer-rules.grownAcross placer-rules.grownDown placer-rules.setMinWidth placer-rules.setMinHeight placer-refusals.gridPart placer-refusals.placerFault placer-refusals.advanceFault placer-refusals.endRowFault placer-refusals.placerAnswer placer-refusals.changedPlacer placer-operations.checkedNew placer-operations.checkedSetGrid placer-operations.checkedSaveGrid placer-operations.checkedForceSetMinRect placer-operations.checkedSetCursor placer-operations.checkedAlignSizeWithinRect placer-operations.checkedAvailableRectBeforeWrap placer-operations.checkedAvailableSize placer-operations.checkedNextSpace placer-operations.checkedNextWidgetPosition placer-operations.checkedJustifyAndAlign placer-operations.checkedAdvanceCursor placer-operations.checkedAdvanceAfterRects placer-operations.checkedEndRow placer-operations.checkedSetRowHeight placer-operations.checkedExpandToIncludeRect placer-operations.checkedExpandToIncludeX placer-operations.checkedExpandToIncludeY placer-operations.checkedNextWidgetSpaceIgnoreWrapJustify placer-operations.checkedSetMaxWidth placer-operations.checkedSetMaxHeight placer-operations.checkedSetMinWidth placer-operations.checkedSetMinHeight fields.column fields.columns fields.hasText fields.grow fields.digitsFrom fields.same fields.blank fields.numberOf fields.field fields.fieldAt fields.writtenAt lines.texts lines.haveTexts lines.line lines.lineAt parts.ends parts.points parts.lengthIn parts.isLength parts.lengthValue parts.measured parts.sizeIn units.nearest units.fromHundredths units.inSteps parts.isMaximum parts.maximumValue parts.countIn parts.isCount parts.natural parts.countValue records.pairFits records.pairIn records.directionOf records.alignOf records.layoutFits records.layoutIn records.rectIn records.headingFits records.maximaFit records.maximaIn records.isColumns records.optionsIn records.gridFits records.stepRecord records.widgetRecord records.singleRecord records.recordOf records.recordAt records.fieldCount records.nextAt sheets.recordsFrom sheets.after sheets.wrongFrom sheets.misplaced sheets.widgetStep sheets.widget sheets.widgets sheets.sheetFault sheets.checked conversions.total sheet-controls.onlyControls sheet-controls.numberIn sheet-controls.sizeOf sheet-controls.sizesFrom pass-rules.widgetFault pass-rules.widgetStep pass-rules.stepped pass-rules.followed pass-rules.runFrom pass-rules.headed pass-rules.gridOf pass-rules.gridSet pass-rules.around pass-rules.plateOf pass-rules.remembered pass-rules.outcomeOf pass-rules.begun pass-rules.ranWith pass-rules.pass passes-rules.passes slices.laid slices.afterCheck slices.written lists.printed lists.settledFrom lists.settled lists.widgetLines lists.entryLines lists.memoryLines lists.acceptedLines lists.refusalLine lists.outcomeLines lists.answered lists.listOf texts.stepsOf headings.stands headings.past headings.hasUnit headings.unitIn headings.hasGrid headings.unitFits headings.optionsFit headings.headingIn headings.headingFault ieee.span ieee.climb ieee.size ieee.odd ieee.units ieee.round ieee.neg ieee.sum ieee.add ieee.sub ieee.mul ieee.div ieee.lt ieee.eq ieee.le ieee.ofInt ieee.toUnsigned ieee.toSigned ieee.ofFields ieee.ofBits ieee.ne cases.times cases.sameAll cases.twiceEach cases.allHold
@@ -199,6 +211,13 @@ computed = record {
   wrapped-narrower = (refl, refl);
   right-to-left = record { first = refl; second = refl; grown = record { heading = refl; steps = Grown.control refl refl Grown.none } };
   further-left = (refl, refl);
+  metric-grown = record {
+    heading = refl;
+    records = Alike.control (Alike.rowEnd (Alike.control (Alike.control Alike.none)));
+    sizes = Forall₂·cons wider (Forall₂·cons wider (Forall₂·cons wider Forall₂·nil));
+  };
+  mixed-accepted = (refl, refl);
+  mixed-narrower = (refl, refl);
   metric-accepted = (refl, refl);
   metric-strip = record { align = Min; is = refl; no-grid = refl };
   metric-spacing = record { across = refl; down = refl };

@@ -7,7 +7,7 @@ use Prim.Native.Nat.{ℕ, zero, suc, _+_, _-_, _*_, _≤_, _<_}
 use native.Mathlib.Omega.{arith}
 use native.Mathlib.Nat.{add-mul}
 use lib.IntN.{ℤ, pos, _+ℤ_, _-ℤ_, _*ℤ_}
-use lib.ListN.{length}
+use lib.ListN.{length, length-map}
 use lib.Ieee.{Float, le}
 use Rattle.emath.specs.Rectangles.{zeroF}
 use Rattle.emath.specs.Steps.{val, Edge}
@@ -37,7 +37,7 @@ use Rattle.price_clause.specs.Sheets.{NoNegativeSpacing, Strip}
 use Rattle.sheet.specs.Ticks.{Ticks, ticks, inTicks, width}
 use Rattle.pass_laws.specs.EachCell.{EachCell}
 use Rattle.pass_laws.specs.Plates.{Holds, HoldsFrames, Smallest}
-use Rattle.price_clause.specs.UnitClause.{spacings, stepWidths}
+use Rattle.price_clause.specs.UnitClause.{spacings, widths, stepWidths}
 use Rattle.price_clause.proofs.OfStrips.StripPlaces.{Place, placerAt, Few, Sound, le-steps, zero-steps, startOf, strip-starts}
 use Rattle.price_clause.proofs.OfStrips.StripSteps.{pastControl, row-end-goes, control-goes}
 use Rattle.price_clause.proofs.OfStrips.Strips.{ticks-is, ticks-rect}
@@ -169,8 +169,7 @@ sized-count (Sized.control W H rest) = omega (arith, sized-count rest)
 sized-count (Sized.rowEnd rest) = omega (arith, sized-count rest)
 
 step-count : (k : ℕ) (u : SizeUnit) (sizes : List Size) → length (stepWidths k u sizes) ≡ length sizes
-step-count k u [] = refl
-step-count k u (z ∷ sizes) = ap suc (step-count k u sizes)
+step-count k u sizes = length-map (widths sizes) (inSteps k u) ∙ length-map sizes (λ (z : Size). z .width)
 
 no-width : (g : ℤ) (t : Rect) (k : ℕ) → t ≡ zeroRect → width (inTicks k t) ≡ total [] +ℤ spacings g 0
 unfolding total

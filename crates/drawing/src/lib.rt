@@ -14,7 +14,7 @@ pub const MAX_DRAWING: usize = 300000;
 
 // How many lines the list has, the plate's size in ticks, and how the picture is ruled: cut into bands across the longer side, each of
 // `step` ticks, where `unit` ticks are as long as the picture; `pitch` is the way from band to band on the page.
-#[derive(Drop)]
+#[derive(Clone, Copy)]
 pub struct Page {
     pub widgets: usize,
     pub columns: usize,
@@ -30,7 +30,7 @@ pub struct Page {
 }
 
 // What is drawn for each line, or for each band.
-#[derive(Drop)]
+#[derive(Clone, Copy)]
 pub enum Layer {
     ColumnLines,
     RowLines,
@@ -44,7 +44,7 @@ pub enum Layer {
 }
 
 // What two controls may have in common: their column's edges, their row's, or the place of their labels.
-#[derive(Drop)]
+#[derive(Clone, Copy)]
 pub enum Shared {
     Column,
     Row,

@@ -1,5 +1,7 @@
 // The arithmetic under everything else (RULES 1): rectangles by value, and the tests and numbers of the domain (RULES 5, 8).
 // Names are those of egui's crate emath.
+#![tactic(auto)]
+
 mod aligning;
 pub mod domain;
 pub mod faults;
@@ -9,20 +11,20 @@ pub mod numbers;
 mod rects;
 pub mod unions;
 
-#[derive(Drop)]
+#[derive(Clone, Copy)]
 pub struct Vec2 {
     pub x: f32,
     pub y: f32,
 }
 
-#[derive(Drop)]
+#[derive(Clone, Copy)]
 pub struct Pos2 {
     pub x: f32,
     pub y: f32,
 }
 
 // y grows downward.
-#[derive(Drop)]
+#[derive(Clone, Copy)]
 pub struct Rect {
     pub left: f32,
     pub top: f32,
@@ -31,13 +33,13 @@ pub struct Rect {
 }
 
 // One axis of a rectangle.
-#[derive(Drop)]
+#[derive(Clone, Copy)]
 pub struct Rangef {
     pub min: f32,
     pub max: f32,
 }
 
-#[derive(Drop)]
+#[derive(Clone, Copy)]
 pub enum Align {
     Min,
     Center,
@@ -45,7 +47,7 @@ pub enum Align {
 }
 
 // Across, and down.
-#[derive(Drop)]
+#[derive(Clone, Copy)]
 pub struct Align2 {
     pub x: Align,
     pub y: Align,

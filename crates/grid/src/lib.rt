@@ -16,7 +16,7 @@ pub const MAX_COLS: usize = 32;
 pub const MAX_ROWS: usize = 128;
 
 // egui's State. Entries beyond a count are not read.
-#[derive(Drop)]
+#[derive(Clone, Copy)]
 pub struct Memory {
     pub col_widths: [f32; 32],
     pub cols: usize,
@@ -24,7 +24,7 @@ pub struct Memory {
     pub rows: usize,
 }
 
-#[derive(Drop)]
+#[derive(Clone, Copy)]
 pub struct GridLayout {
     // No previous memory is known.
     pub is_first_frame: bool,
@@ -43,7 +43,7 @@ pub struct GridLayout {
 }
 
 // What a pass leaves as it is of a grid, without the arrays, which are lent beside it.
-#[derive(Drop)]
+#[derive(Clone, Copy)]
 pub struct GridSettings {
     pub is_first_frame: bool,
     pub prev_cols: usize,
@@ -57,7 +57,7 @@ pub struct GridSettings {
 }
 
 // What a pass carries from cell to cell: how many columns and rows it remembers so far, and where it is.
-#[derive(Drop)]
+#[derive(Clone, Copy)]
 pub struct GridState {
     pub cols: usize,
     pub rows: usize,
@@ -66,7 +66,7 @@ pub struct GridState {
 }
 
 // A remembered length, none, or the number by which the call is refused.
-#[derive(Drop)]
+#[derive(Clone, Copy)]
 pub enum LengthAnswer {
     Length(f32),
     Nothing,
@@ -74,39 +74,39 @@ pub enum LengthAnswer {
 }
 
 // Calls that change a state: the number (0: none), and the state, the given one where it is refused.
-#[derive(Drop)]
+#[derive(Clone, Copy)]
 pub struct MemoryAnswer {
     pub number: u8,
     pub memory: Memory,
 }
 
-#[derive(Drop)]
+#[derive(Clone, Copy)]
 pub struct GridAnswer {
     pub number: u8,
     pub grid: GridLayout,
 }
 
-#[derive(Drop)]
+#[derive(Clone, Copy)]
 pub struct MovedAnswer {
     pub number: u8,
     pub moved: Moved,
 }
 
 // A grid with the cursor that it has moved.
-#[derive(Drop)]
+#[derive(Clone, Copy)]
 pub struct Moved {
     pub grid: GridLayout,
     pub cursor: Rect,
 }
 
 // What a pass gives back: the memory, and whether it is to be saved.
-#[derive(Drop)]
+#[derive(Clone, Copy)]
 pub struct Saved {
     pub memory: Memory,
     pub save: bool,
 }
 
-#[derive(Drop)]
+#[derive(Clone, Copy)]
 pub struct SavedAnswer {
     pub number: u8,
     pub saved: Saved,

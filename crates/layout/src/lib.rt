@@ -12,7 +12,7 @@ mod inspectors;
 mod operations;
 pub mod widgets;
 
-#[derive(Drop)]
+#[derive(Clone, Copy)]
 pub struct Layout {
     pub main_dir: Direction,
     pub main_wrap: bool,

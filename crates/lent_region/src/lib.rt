@@ -28,7 +28,7 @@ pub fn end_row(layout: Layout, region: &mut Region, spacing: Vec2) -> u8
 }
 
 // What each of the two answered, and the region as it left it.
-#[derive(Drop)]
+#[derive(Clone, Copy)]
 pub struct Edited {
     pub advanced: RegionAnswer,
     pub ended: RegionAnswer,

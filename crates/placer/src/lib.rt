@@ -13,7 +13,7 @@ pub mod limits;
 mod operations;
 pub mod rules;
 
-#[derive(Drop)]
+#[derive(Clone, Copy)]
 pub struct Placer {
     // Whether there is a grid, which then takes precedence over the layout.
     pub has_grid: bool,
@@ -23,14 +23,14 @@ pub struct Placer {
 }
 
 // A call that changes a placer: its number (0: none), and the placer, the given one where it is refused.
-#[derive(Drop)]
+#[derive(Clone, Copy)]
 pub struct PlacerAnswer {
     pub number: u8,
     pub placer: Placer,
 }
 
 // What a pass leaves as it is of a placer, without the arrays of its grid's memories, which are lent beside it.
-#[derive(Drop)]
+#[derive(Clone, Copy)]
 pub struct PlacerSettings {
     pub has_grid: bool,
     pub grid: GridSettings,
@@ -38,14 +38,14 @@ pub struct PlacerSettings {
 }
 
 // What a pass carries from record to record.
-#[derive(Drop)]
+#[derive(Clone, Copy)]
 pub struct PassState {
     pub region: Region,
     pub grid: GridState,
 }
 
 // A call in a pass: what it carries on, or the number by which the call is refused.
-#[derive(Drop)]
+#[derive(Clone, Copy)]
 pub enum StateAnswer {
     Changed(PassState),
     Refused(u8),

@@ -20,7 +20,7 @@ pub const MAX_RECORDS: usize = 512;
 pub const CACHE_LEN: usize = 1026;
 
 // What G says.
-#[derive(Drop)]
+#[derive(Clone, Copy)]
 pub struct GridOptions {
     pub min_cell_size: Vec2,
     // Each may be +infinity.
@@ -31,7 +31,7 @@ pub struct GridOptions {
 }
 
 // What the fields of a W are in.
-#[derive(Drop)]
+#[derive(Clone, Copy)]
 pub enum SizeUnit {
     // Steps of the sheet, as all its other lengths.
     Steps,
@@ -40,7 +40,7 @@ pub enum SizeUnit {
 }
 
 // What comes before the first step: H, and M and G where they are there.
-#[derive(Drop)]
+#[derive(Clone, Copy)]
 pub struct Heading {
     pub layout: Layout,
     pub max_rect: Rect,
@@ -55,7 +55,7 @@ pub struct Heading {
 }
 
 // Lengths are in points.
-#[derive(Drop)]
+#[derive(Clone, Copy)]
 pub enum Step {
     Widget(f32, f32),
     Space(f32),
@@ -68,21 +68,21 @@ pub enum Step {
 }
 
 // What stands where a step may stand.
-#[derive(Drop)]
+#[derive(Clone, Copy)]
 pub enum Record {
     Step(Step),
     Wrong,
 }
 
 // A field that holds a length, in points.
-#[derive(Drop)]
+#[derive(Clone, Copy)]
 pub enum Length {
     Points(f32),
     Blank,
     Wrong,
 }
 
-#[derive(Drop)]
+#[derive(Clone, Copy)]
 pub enum Checked {
     // How many records, and how many of them are W.
     Accepted(usize, usize),

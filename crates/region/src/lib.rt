@@ -6,7 +6,7 @@ pub mod faults;
 mod operations;
 pub mod regions;
 
-#[derive(Drop)]
+#[derive(Clone, Copy)]
 pub enum Direction {
     LeftToRight,
     RightToLeft,
@@ -14,7 +14,7 @@ pub enum Direction {
     BottomUp,
 }
 
-#[derive(Drop)]
+#[derive(Clone, Copy)]
 pub struct Region {
     pub min_rect: Rect,
     pub max_rect: Rect,
@@ -22,32 +22,32 @@ pub struct Region {
 }
 
 // A rectangle, or the number (RULES 8.1) by which the call is refused.
-#[derive(Drop)]
+#[derive(Clone, Copy)]
 pub enum RectAnswer {
     Placed(Rect),
     Refused(u8),
 }
 
-#[derive(Drop)]
+#[derive(Clone, Copy)]
 pub enum PosAnswer {
     Found(Pos2),
     Refused(u8),
 }
 
-#[derive(Drop)]
+#[derive(Clone, Copy)]
 pub enum SizeAnswer {
     Measured(Vec2),
     Refused(u8),
 }
 
 // A call that changes a state: its number (0: none), and the state, the given one where it is refused.
-#[derive(Drop)]
+#[derive(Clone, Copy)]
 pub struct RegionAnswer {
     pub number: u8,
     pub region: Region,
 }
 
-#[derive(Drop)]
+#[derive(Clone, Copy)]
 pub struct CursorAnswer {
     pub number: u8,
     pub cursor: Rect,

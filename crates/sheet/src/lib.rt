@@ -12,7 +12,7 @@ mod walk;
 
 // What a record gives: its number (0: none); the state after it, or the given one where it is refused; how many W it is, 1 or 0, and a W's
 // rectangles.
-#[derive(Drop)]
+#[derive(Clone, Copy)]
 pub struct StepResult {
     pub number: u8,
     pub state: PassState,
@@ -22,7 +22,7 @@ pub struct StepResult {
 }
 
 // How far a run came: a refusal's number and record, 0 and 0 for none, the state there, and the plate of the W before it.
-#[derive(Drop)]
+#[derive(Clone, Copy)]
 pub struct RunResult {
     pub number: u8,
     pub at: usize,
@@ -31,14 +31,14 @@ pub struct RunResult {
 }
 
 // Whether a pass is accepted, or the refusal's number (RULES 8.1) and the record, from 1.
-#[derive(Drop)]
+#[derive(Clone, Copy)]
 pub enum Laid {
     Accepted,
     Refused(u8, usize),
 }
 
 // What a pass gives. Where it is refused the plate is all zero, and the memory is the one given (RULES 8.19).
-#[derive(Drop)]
+#[derive(Clone, Copy)]
 pub struct Passed {
     pub laid: Laid,
     pub plate: Rect,

@@ -16,7 +16,7 @@ pub const MAX_STRETCHED: usize = 41396;
 
 // What a stretch gives. The plate is in points; the quotient, the remainder and the new widths are in steps. Where it is refused the plate
 // and all numbers are zero, and the memory is empty.
-#[derive(Drop)]
+#[derive(Clone, Copy)]
 pub struct Stretched {
     pub laid: Laid,
     pub plate: Rect,
@@ -29,7 +29,7 @@ pub struct Stretched {
 }
 
 // Whether the records after the heading are W and E only, and how many W there are.
-#[derive(Drop)]
+#[derive(Clone, Copy)]
 pub enum Controls {
     Only(usize),
     Others,

@@ -6,7 +6,7 @@ pub mod lines;
 mod short;
 
 // What eight columns hold.
-#[derive(Drop)]
+#[derive(Clone, Copy)]
 pub enum Field {
     Blank,
     Number(i32),

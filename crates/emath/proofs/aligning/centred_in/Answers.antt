@@ -1,0 +1,11 @@
+use lib.Ieee.{of_bits, div, neg}
+use Rattle.emath.specs.Rectangles.{centred}
+use Rattle.emath.proofs.aligning.centred_in.Goals as goal
+
+pub returns-then-is_infinite : goal.returns-then-is_infinite
+unfolding centred of_bits div neg
+returns-then-is_infinite c = rw (← c.is_infinite.ensures, c.if-is_infinite.true)
+
+pub returns : goal.returns
+unfolding centred
+returns c = rw (← c.is_infinite.ensures, c.if-is_infinite.false)

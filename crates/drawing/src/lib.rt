@@ -1,4 +1,6 @@
 // A plate's drawing, from bytes to bytes: a text of SVG that is made of the plate's printed list.
+#![tactic(auto)]
+
 mod controls;
 mod elements;
 mod lists;

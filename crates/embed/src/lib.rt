@@ -1,5 +1,7 @@
 // The calls of include/platelist.h, for C and Rust (RULES 7.11): a sheet's text in; rectangles, plate, memory, list and drawing out, all
 // in the caller's memory.
+#![tactic(auto)]
+
 mod exports;
 
 ghost use Rattle.std.specs.Prelude.{◌≡◌, ◌≤◌};

@@ -1,6 +1,8 @@
 // egui's grid.rs (RULES 3): the memory of a grid's column widths and row heights, and the grid's layout.
 // The unchecked rules are total functions, in `memories` and `grids`; `operations` holds the public calls, which refuse by RULES 8.16 with
 // the numbers of `faults`.
+#![tactic(auto)]
+
 use emath::{Rect, Vec2};
 
 mod entries;

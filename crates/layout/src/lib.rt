@@ -1,6 +1,8 @@
 // egui's layout.rs: Layout (RULES 2).
 // The unchecked rules are total functions, in `available`, `frames`, `widgets` and `cursors`; `operations` holds the public calls, which
 // refuse by RULES 8.15 with the numbers of `region::faults`.
+#![tactic(auto)]
+
 use emath::Align;
 use region::Direction;
 

@@ -1,4 +1,6 @@
 // The printed list of a sheet (RULES 7), from bytes to bytes: what the program `platelist` writes.
+#![tactic(auto)]
+
 mod lines;
 pub mod printing;
 

@@ -1,6 +1,8 @@
 // egui's placer.rs (RULES 4): a layout or a grid, with the region that it fills.
 // The unchecked rules are total functions, in `rules` and `limits`; `operations` holds the public calls, which refuse by RULES 8.17 with
 // the numbers of `faults`.
+#![tactic(auto)]
+
 use grid::{GridLayout, GridSettings, GridState};
 use layout::Layout;
 use region::Region;

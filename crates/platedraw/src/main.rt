@@ -1,4 +1,6 @@
 // Reads a sheet on standard input and writes its plate's drawing, an SVG, to standard output.
+#![tactic(auto)]
+
 use drawing::MAX_DRAWING;
 use listing::MAX_TEXT;
 use sheet_drawing::draw_sheet;

@@ -1,4 +1,6 @@
 // Reads a sheet on standard input and writes its list to standard output.
+#![tactic(auto)]
+
 use listing::printing::print;
 use listing::{MAX_LIST, MAX_TEXT};
 

@@ -1,4 +1,6 @@
 // The entry points of crate grid: tests only.
+#![tactic(auto)]
+
 mod cells;
 mod memories;
 mod moves;

@@ -1,3 +1,5 @@
 // The entry points of crate layout: tests only.
+#![tactic(auto)]
+
 mod fields;
 mod operations;

@@ -1,4 +1,6 @@
 // The entry point of crate lent_region: tests only.
+#![tactic(auto)]
+
 use lent_region::edit;
 use probe_values::layouts::{answer_region, layout_of, region_of};
 use probe_values::packing::{Counts, ITEM_SPACING, LENGTH, Lengths, vec2_at};

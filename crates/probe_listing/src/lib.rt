@@ -1,4 +1,6 @@
 // The entry point of crate listing: tests only.
+#![tactic(auto)]
+
 use listing::MAX_LIST;
 use listing::printing::print;
 

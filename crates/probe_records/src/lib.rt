@@ -1,4 +1,6 @@
 // The entry points of crates text and records: tests only.
+#![tactic(auto)]
+
 use probe_values::layouts::{count_of_flag, number_of_direction};
 use probe_values::rects::number_of_align;
 use records::headings::{heading_fault, read_heading};

@@ -1,4 +1,6 @@
 // The entry point of crate sheet: tests only.
+#![tactic(auto)]
+
 use probe_values::grids::{memory_of, put_memory};
 use probe_values::layouts::count_of_flag;
 use probe_values::packing::{Counts, KNOWN, Lengths, PLACE, RECT, SAVE, SIZING_PASS, put_rect_at};

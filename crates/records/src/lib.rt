@@ -1,4 +1,6 @@
 // A sheet's records (RULES 6.5 to 6.11, 6.24): what the text of each says, and the checks over a whole sheet (RULES 8.6 to 8.8).
+#![tactic(auto)]
+
 use emath::{Rect, Vec2};
 use layout::Layout;
 

@@ -1,4 +1,6 @@
 // Direction and Region of egui's layout.rs, and the answers of the calls that the layers above make on them.
+#![tactic(auto)]
+
 use emath::{Pos2, Rect, Vec2};
 
 mod directions;

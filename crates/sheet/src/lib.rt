@@ -1,4 +1,6 @@
 // One pass over a sheet's text (RULES 6.12 to 6.20): the call, `passing::pass`, and what it is made of.
+#![tactic(auto)]
+
 use emath::Rect;
 use grid::Memory;
 use placer::PassState;

@@ -1,4 +1,6 @@
 // The drawing of a sheet: that of the list that is printed of it, with the plate in millimetres where the sheet has an M.
+#![tactic(auto)]
+
 ghost use Rattle.std.specs.Prelude.{◌≡◌, ◌≤◌};
 ghost use Rattle.sheet_drawing.specs.SheetDrawings.{sheet_drawn_in};
 

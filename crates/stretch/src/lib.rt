@@ -1,4 +1,6 @@
 // A grid's columns stretched to a given width (RULES 11): the call, `stretching::stretch`, and the list that is printed of it.
+#![tactic(auto)]
+
 use emath::Rect;
 use grid::Memory;
 use sheet::Laid;

@@ -1,5 +1,7 @@
 // A sheet's fields as text: whole numbers in eight columns, read and written against one definition of a number's text; and a line
 // of the printed list.
+#![tactic(auto)]
+
 mod digits;
 pub mod fields;
 pub mod lines;

@@ -1,0 +1,13 @@
+use Rattle.text.proofs.Writing.{DigitsSoFar, no-digit-yet, at_most, room-for-one, room-for-two, pair-more, all_done}
+use lib.ListN.{length}
+use mathlib.Core.Path.{◌≡◌, ◌∙◌}
+use Prim.Native.Nat.{◌-◌, ◌≤◌}
+use native.Mathlib.Omega.{arith}
+use borrow.Author.Rules.{rules}
+use Rattle.text.proofs.digits.put_digits.Given as goal
+
+abbrev pub invariant-loop-rest : goal.invariant-loop-rest
+invariant-loop-rest l = (length l.out ≡ length l.initial.out) × (l.i ≤ l.end) × DigitsSoFar l.n l.initial.out l.i (l.end - l.i) l.rest l.out
+
+abbrev pub decreases-loop-rest : goal.decreases-loop-rest
+decreases-loop-rest l = l.rest

@@ -1,0 +1,6 @@
+use Rattle.region.specs.Operations.{placed_number}
+use Rattle.region.proofs.faults.placed_rect.Goals as goal
+
+pub returns : goal.returns
+unfolding placed_number
+returns c = rw (c.rect_answer.ensures, c.or_else.ensures, c.outside_domain.ensures, c.edges_fault.ensures)

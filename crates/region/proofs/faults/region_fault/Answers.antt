@@ -1,0 +1,7 @@
+use Rattle.region.specs.Refusals.{region_fault}
+use Rattle.emath.specs.Refusals.{least}
+use Rattle.region.proofs.faults.region_fault.Goals as goal
+
+pub returns : goal.returns
+unfolding region_fault least
+returns c = rw (c.lesser_number-2.ensures, c.lesser_number.ensures, c.cursor_fault.ensures, c.rect_fault-2.ensures, c.rect_fault.ensures)

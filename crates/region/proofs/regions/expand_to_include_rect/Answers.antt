@@ -1,0 +1,6 @@
+use Rattle.region.specs.Regions.{expand_to_include_rect}
+use Rattle.region.proofs.regions.expand_to_include_rect.Goals as goal
+
+pub returns : goal.returns
+unfolding expand_to_include_rect
+returns c = rw (c.union-g-2.ensures, c.union-g.ensures)

@@ -1,0 +1,7 @@
+use Rattle.drawing.specs.Drawings.{down}
+use borrow.Author.Rules.{rules}
+use Rattle.drawing.proofs.controls.down.Goals as goal
+
+pub returns : goal.returns
+unfolding down
+returns c = (rw (← c.place_of-top.ensures.0) c.middle.ensures.0, c.middle.ensures.1)

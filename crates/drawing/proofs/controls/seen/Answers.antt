@@ -1,0 +1,16 @@
+use Prim.Native.Nat.{◌≤◌}
+use Rattle.drawing.proofs.Layers.{seen_end, seen-hit, seen-turn}
+use Rattle.drawing.specs.Drawings.{seen}
+use borrow.Author.Rules.{rules}
+use mathlib.Core.Path.{◌∙◌, ◌≡◌, sym}
+use native.Mathlib.Omega.{arith}
+use Rattle.drawing.proofs.controls.seen.Goals as goal
+
+pub returns-then-shares : goal.returns-then-shares
+returns-then-shares c = seen-hit _ _ _ _ c.loop-j.j c.loop-j-test.true (sym c.shares.ensures ∙ c.if-shares.true) ∙ c.loop-j.invariant.1
+
+pub loop-j-preserved : goal.loop-j-preserved
+loop-j-preserved c = (omega arith, sym (seen-turn _ _ _ _ c.loop-j.j c.loop-j-test.true (sym c.shares.ensures ∙ c.if-shares.false)) ∙ c.loop-j.invariant.1)
+
+pub returns : goal.returns
+returns c = seen_end _ _ _ _ c.loop-j.j c.loop-j-test.false ∙ c.loop-j.invariant.1

@@ -1,0 +1,13 @@
+use Prim.Native.Nat.{◌≤◌}
+use Rattle.drawing.proofs.Layers.{seen_end, seen-hit, seen-turn}
+use Rattle.drawing.specs.Drawings.{seen}
+use borrow.Author.Rules.{rules}
+use mathlib.Core.Path.{◌∙◌, ◌≡◌, sym}
+use native.Mathlib.Omega.{arith}
+use Rattle.drawing.proofs.controls.seen.Given as goal
+
+abbrev pub invariant-loop-j : goal.invariant-loop-j
+invariant-loop-j l = (l.j ≤ l.k) × (seen l.what l.page l.list l.j l.k ≡ seen l.what l.page l.list l.k l.k)
+
+abbrev pub decreases-loop-j : goal.decreases-loop-j
+decreases-loop-j l = l.j

@@ -1,0 +1,11 @@
+use Rattle.drawing.specs.Drawings.{captions}
+use borrow.Author.Rules.{rules}
+use Rattle.drawing.proofs.elements.put_caption.Goals as goal
+
+pub returns-then-page : goal.returns-then-page
+unfolding captions
+returns-then-page c = rw (← c.times-place.ensures.0, ← c.times-start.ensures.0, c.if-page.true) c.put_filled.ensures
+
+pub returns : goal.returns
+unfolding captions
+returns c = rw (← c.times-place.ensures.0, ← c.times-start.ensures.0, c.if-page.false) c.put_filled-2.ensures

@@ -1,0 +1,12 @@
+use Rattle.drawing.specs.Drawings.{column_lines}
+use Rattle.drawing.specs.Pieces.{emits}
+use borrow.Author.Rules.{rules}
+use Rattle.drawing.proofs.elements.put_column_lines.Goals as goal
+
+pub returns-then-seen : goal.returns-then-seen
+unfolding column_lines emits
+returns-then-seen c = rw (← c.seen.ensures, c.if-seen.true)
+
+pub returns : goal.returns
+unfolding column_lines
+returns c = rw (← c.seen.ensures, c.if-seen.false) c.put_filled.ensures

@@ -1,0 +1,7 @@
+use Rattle.drawing.specs.Pictures.{millimetres}
+use borrow.Author.Rules.{rules}
+use Rattle.drawing.proofs.millimetres.put_millimetres.Goals as goal
+
+pub returns : goal.returns
+unfolding millimetres
+returns c = rw (← c.hundredths-h.ensures) c.put_filled.ensures

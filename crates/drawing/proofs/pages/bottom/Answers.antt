@@ -1,0 +1,12 @@
+use Rattle.drawing.specs.Pages.{bottom}
+use native.Mathlib.Omega.{arith}
+use borrow.Author.Rules.{rules}
+use Rattle.drawing.proofs.pages.bottom.Goals as goal
+
+pub returns-then-page : goal.returns-then-page
+unfolding bottom
+returns-then-page c = rw c.if-page.true (omega arith, omega arith, omega arith)
+
+pub returns : goal.returns
+unfolding bottom
+returns c = rw c.if-page.false (rw (c.px.ensures.0, c.lesser.ensures) (omega arith), omega arith, omega arith)

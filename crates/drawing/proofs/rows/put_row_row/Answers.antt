@@ -1,0 +1,11 @@
+use Rattle.drawing.specs.Drawings.{row_row}
+use native.Mathlib.Omega.{arith}
+use borrow.Author.Rules.{rules}
+use Rattle.drawing.proofs.rows.put_row_row.Goals as goal
+
+pub row_across-requires : goal.row_across-requires
+row_across-requires c = record { in_bounds = c.requires.in_bounds; i_bound = omega arith }
+
+pub returns : goal.returns
+unfolding row_row
+returns c = rw (← c.row_across.ensures, ← c.row_down.ensures) c.put_filled.ensures

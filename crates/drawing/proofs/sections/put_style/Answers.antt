@@ -1,0 +1,7 @@
+use Rattle.drawing.specs.Pictures.{style}
+use borrow.Author.Rules.{rules}
+use Rattle.drawing.proofs.sections.put_style.Goals as goal
+
+pub returns : goal.returns
+unfolding style
+returns c = c.put_words.ensures

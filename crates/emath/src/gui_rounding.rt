@@ -13,8 +13,8 @@ const SHIFT: f32 = 12582912.0;
 
 // The nearest whole number of a y above 0 and below 2^23. Twice y is exact, where y + 0.5 would round: 0.49999997 to 1.
 fn near(y: f32) -> f32
-    requires t { T (lt (fin false 0 (pos 0)) y) }
-    requires t_2 { T (lt y (fin false 1 (pos 23))) }
+    requires above_zero { T (lt (fin false 0 (pos 0)) y) }
+    requires below_limit { T (lt y (fin false 1 (pos 23))) }
     ensures { result ≡ round_f y }
 {
     let n = (std::num::truncating_f32_to_u64(y + y) + 1) / 2;

@@ -58,8 +58,8 @@ impl Memory {
     }
 
     pub fn col_width(self, col: usize) -> LengthAnswer
-        ensures value { result ≡ checked_col_width self col }
-        ensures result_value { (length_number result ≡ memory_fault self) × (length_value result ≡ length_or_zero (length_number result) (col_width self col zero_f)) }
+        ensures answer { result ≡ checked_col_width self col }
+        ensures says { (length_number result ≡ memory_fault self) × (length_value result ≡ length_or_zero (length_number result) (col_width self col zero_f)) }
     {
         let there = col < self.cols;
         entry_answer(
@@ -70,8 +70,8 @@ impl Memory {
     }
 
     pub fn row_height(self, row: usize) -> LengthAnswer
-        ensures value { result ≡ checked_row_height self row }
-        ensures result_value { (length_number result ≡ memory_fault self) × (length_value result ≡ length_or_zero (length_number result) (row_height self row zero_f)) }
+        ensures answer { result ≡ checked_row_height self row }
+        ensures says { (length_number result ≡ memory_fault self) × (length_value result ≡ length_or_zero (length_number result) (row_height self row zero_f)) }
     {
         let there = row < self.rows;
         entry_answer(
@@ -82,8 +82,8 @@ impl Memory {
     }
 
     pub fn full_width(self, x_spacing: f32) -> LengthAnswer
-        ensures value { result ≡ checked_full_width self x_spacing }
-        ensures result_value { (length_number result ≡ full_width_number self x_spacing) × (length_value result ≡ length_or_zero (length_number result) (full_width self x_spacing)) }
+        ensures answer { result ≡ checked_full_width self x_spacing }
+        ensures says { (length_number result ≡ full_width_number self x_spacing) × (length_value result ≡ length_or_zero (length_number result) (full_width self x_spacing)) }
     {
         let width = memories::full_width(self, x_spacing);
         let before = lesser_number(memory_fault(self), length_fault(x_spacing));
@@ -135,15 +135,15 @@ impl GridLayout {
     }
 
     pub fn prev_col_width(self, col: usize) -> LengthAnswer
-        ensures value { result ≡ checked_prev_col_width self col }
-        ensures result_value { (length_number result ≡ grid_fault self) × (length_value result ≡ length_or_zero (length_number result) (prev_col_width self col)) }
+        ensures answer { result ≡ checked_prev_col_width self col }
+        ensures says { (length_number result ≡ grid_fault self) × (length_value result ≡ length_or_zero (length_number result) (prev_col_width self col)) }
     {
         length_answer(grid_fault(self), grids::prev_col_width(self, col))
     }
 
     pub fn prev_row_height(self, row: usize) -> LengthAnswer
-        ensures value { result ≡ checked_prev_row_height self row }
-        ensures result_value { (length_number result ≡ grid_fault self) × (length_value result ≡ length_or_zero (length_number result) (prev_row_height self row)) }
+        ensures answer { result ≡ checked_prev_row_height self row }
+        ensures says { (length_number result ≡ grid_fault self) × (length_value result ≡ length_or_zero (length_number result) (prev_row_height self row)) }
     {
         length_answer(grid_fault(self), grids::prev_row_height(self, row))
     }
@@ -155,8 +155,8 @@ impl GridLayout {
     }
 
     pub fn available_rect(self, main_dir: Direction, region: Region) -> RectAnswer
-        ensures value { result ≡ checked_available_rect self main_dir region }
-        ensures result_value { (rect_number result ≡ available_rect_number self main_dir region) × (rect_value result ≡ rect_or_zero (rect_number result) (available_rect self region)) }
+        ensures answer { result ≡ checked_available_rect self main_dir region }
+        ensures says { (rect_number result ≡ available_rect_number self main_dir region) × (rect_value result ≡ rect_or_zero (rect_number result) (available_rect self region)) }
     {
         let rect = grids::available_rect(self, region);
         let rest = lesser_number(region_fault(main_dir, region), direction_fault(main_dir));
@@ -164,8 +164,8 @@ impl GridLayout {
     }
 
     pub fn next_cell(self, main_dir: Direction, cursor: Rect, child_size: Vec2) -> RectAnswer
-        ensures value { result ≡ checked_next_cell tick self main_dir cursor child_size }
-        ensures result_value { (rect_number result ≡ next_cell_number tick self main_dir cursor child_size) × (rect_value result ≡ rect_or_zero (rect_number result) (next_cell tick self cursor child_size)) }
+        ensures answer { result ≡ checked_next_cell tick self main_dir cursor child_size }
+        ensures says { (rect_number result ≡ next_cell_number tick self main_dir cursor child_size) × (rect_value result ≡ rect_or_zero (rect_number result) (next_cell tick self cursor child_size)) }
     {
         let frame = grids::next_cell(self, cursor, child_size);
         let sizes = lesser_number(size_fault(child_size), direction_fault(main_dir));
@@ -174,8 +174,8 @@ impl GridLayout {
     }
 
     pub fn align_size_within_rect(self, size: Vec2, frame: Rect) -> RectAnswer
-        ensures value { result ≡ checked_align_size_within_rect tick self size frame }
-        ensures result_value { (rect_number result ≡ align_size_within_rect_number tick self size frame) × (rect_value result ≡ rect_or_zero (rect_number result) (align_size_within_rect tick size frame)) }
+        ensures answer { result ≡ checked_align_size_within_rect tick self size frame }
+        ensures says { (rect_number result ≡ align_size_within_rect_number tick self size frame) × (rect_value result ≡ rect_or_zero (rect_number result) (align_size_within_rect tick size frame)) }
     {
         let rect = grids::align_size_within_rect(size, frame);
         let rest = lesser_number(size_fault(size), rect_fault(frame));
@@ -183,8 +183,8 @@ impl GridLayout {
     }
 
     pub fn justify_and_align(self, frame: Rect, size: Vec2) -> RectAnswer
-        ensures value { result ≡ checked_align_size_within_rect tick self size frame }
-        ensures result_value { (rect_number result ≡ align_size_within_rect_number tick self size frame) × (rect_value result ≡ rect_or_zero (rect_number result) (align_size_within_rect tick size frame)) }
+        ensures answer { result ≡ checked_align_size_within_rect tick self size frame }
+        ensures says { (rect_number result ≡ align_size_within_rect_number tick self size frame) × (rect_value result ≡ rect_or_zero (rect_number result) (align_size_within_rect tick size frame)) }
     {
         self.align_size_within_rect(size, frame)
     }

@@ -18,16 +18,16 @@ use region::{CursorAnswer, PosAnswer, RectAnswer, Region, RegionAnswer, SizeAnsw
 
 impl Layout {
     pub fn align_size_within_rect(self, size: Vec2, outer: Rect) -> RectAnswer
-        ensures value { result ≡ checked_align_size_within_rect tick self size outer }
-        ensures result_value { (rect_number result ≡ align_size_within_rect_number tick self size outer) × (rect_value result ≡ rect_or_zero (rect_number result) (align_size_within_rect tick self size outer)) }
+        ensures answer { result ≡ checked_align_size_within_rect tick self size outer }
+        ensures says { (rect_number result ≡ align_size_within_rect_number tick self size outer) × (rect_value result ≡ rect_or_zero (rect_number result) (align_size_within_rect tick self size outer)) }
     {
         let rect = widgets::align_size_within_rect(self, size, outer);
         placed_rect(lesser_number(size_fault(size), rect_fault(outer)), rect)
     }
 
     pub fn initial_cursor(self, max_rect: Rect) -> RectAnswer
-        ensures value { result ≡ checked_initial_cursor self max_rect }
-        ensures result_value { (rect_number result ≡ initial_cursor_number self max_rect) × (rect_value result ≡ rect_or_zero (rect_number result) (initial_cursor self.main_dir max_rect)) }
+        ensures answer { result ≡ checked_initial_cursor self max_rect }
+        ensures says { (rect_number result ≡ initial_cursor_number self max_rect) × (rect_value result ≡ rect_or_zero (rect_number result) (initial_cursor self.main_dir max_rect)) }
     {
         let d = self.main_dir;
         let cursor = available::initial_cursor(d, max_rect);
@@ -44,8 +44,8 @@ impl Layout {
     }
 
     pub fn available_rect_before_wrap(self, region: Region) -> RectAnswer
-        ensures value { result ≡ checked_available_rect_before_wrap self region }
-        ensures result_value { (rect_number result ≡ available_rect_before_wrap_number self region) × (rect_value result ≡ rect_or_zero (rect_number result) (available_rect_before_wrap self.main_dir region)) }
+        ensures answer { result ≡ checked_available_rect_before_wrap self region }
+        ensures says { (rect_number result ≡ available_rect_before_wrap_number self region) × (rect_value result ≡ rect_or_zero (rect_number result) (available_rect_before_wrap self.main_dir region)) }
     {
         let d = self.main_dir;
         let rect = available::available_rect_before_wrap(d, region);
@@ -53,8 +53,8 @@ impl Layout {
     }
 
     pub fn available_size(self, region: Region) -> SizeAnswer
-        ensures value { result ≡ checked_available_size self region }
-        ensures result_value { (size_number result ≡ available_size_number self region) × (size_value result ≡ size_or_zero (size_number result) (available_size self region)) }
+        ensures answer { result ≡ checked_available_size self region }
+        ensures says { (size_number result ≡ available_size_number self region) × (size_value result ≡ size_or_zero (size_number result) (available_size self region)) }
     {
         let d = self.main_dir;
         let size = available::available_size(self, region);
@@ -63,8 +63,8 @@ impl Layout {
     }
 
     pub fn available_from_cursor_max_rect(self, cursor: Rect, max_rect: Rect) -> RectAnswer
-        ensures value { result ≡ checked_available_from_cursor_max_rect self cursor max_rect }
-        ensures result_value { (rect_number result ≡ available_from_cursor_max_rect_number self cursor max_rect) × (rect_value result ≡ rect_or_zero (rect_number result) (available_from_cursor_max_rect self.main_dir cursor max_rect)) }
+        ensures answer { result ≡ checked_available_from_cursor_max_rect self cursor max_rect }
+        ensures says { (rect_number result ≡ available_from_cursor_max_rect_number self cursor max_rect) × (rect_value result ≡ rect_or_zero (rect_number result) (available_from_cursor_max_rect self.main_dir cursor max_rect)) }
     {
         let d = self.main_dir;
         let rect = available::available_from_cursor_max_rect(d, cursor, max_rect);
@@ -75,8 +75,8 @@ impl Layout {
     }
 
     pub fn next_frame(self, region: Region, child_size: Vec2, spacing: Vec2) -> RectAnswer
-        ensures value { result ≡ checked_next_frame tick self region child_size spacing }
-        ensures result_value { (rect_number result ≡ next_frame_number tick self region child_size spacing) × (rect_value result ≡ rect_or_zero (rect_number result) (next_frame tick self region child_size spacing)) }
+        ensures answer { result ≡ checked_next_frame tick self region child_size spacing }
+        ensures says { (rect_number result ≡ next_frame_number tick self region child_size spacing) × (rect_value result ≡ rect_or_zero (rect_number result) (next_frame tick self region child_size spacing)) }
     {
         let d = self.main_dir;
         let frame = frames::next_frame(self, region, child_size, spacing);
@@ -85,8 +85,8 @@ impl Layout {
     }
 
     pub fn next_frame_ignore_wrap(self, region: Region, child_size: Vec2) -> RectAnswer
-        ensures value { result ≡ checked_next_frame_ignore_wrap tick self region child_size }
-        ensures result_value { (rect_number result ≡ next_frame_ignore_wrap_number tick self region child_size) × (rect_value result ≡ rect_or_zero (rect_number result) (next_frame_ignore_wrap tick self region child_size)) }
+        ensures answer { result ≡ checked_next_frame_ignore_wrap tick self region child_size }
+        ensures says { (rect_number result ≡ next_frame_ignore_wrap_number tick self region child_size) × (rect_value result ≡ rect_or_zero (rect_number result) (next_frame_ignore_wrap tick self region child_size)) }
     {
         let d = self.main_dir;
         let frame = frames::next_frame_ignore_wrap(self, region, child_size);
@@ -97,8 +97,8 @@ impl Layout {
     }
 
     pub fn justify_and_align(self, frame: Rect, child_size: Vec2) -> RectAnswer
-        ensures value { result ≡ checked_justify_and_align tick self frame child_size }
-        ensures result_value { (rect_number result ≡ justify_and_align_number tick self frame child_size) × (rect_value result ≡ rect_or_zero (rect_number result) (justify_and_align tick self frame child_size)) }
+        ensures answer { result ≡ checked_justify_and_align tick self frame child_size }
+        ensures says { (rect_number result ≡ justify_and_align_number tick self frame child_size) × (rect_value result ≡ rect_or_zero (rect_number result) (justify_and_align tick self frame child_size)) }
     {
         let widget = widgets::justify_and_align(self, frame, child_size);
         placed_rect(
@@ -108,8 +108,8 @@ impl Layout {
     }
 
     pub fn next_widget_space_ignore_wrap_justify(self, region: Region, size: Vec2) -> RectAnswer
-        ensures value { result ≡ checked_next_widget_space_ignore_wrap_justify tick self region size }
-        ensures result_value { (rect_number result ≡ next_widget_space_ignore_wrap_justify_number tick self region size) × (rect_value result ≡ rect_or_zero (rect_number result) (next_widget_space_ignore_wrap_justify tick self region size)) }
+        ensures answer { result ≡ checked_next_widget_space_ignore_wrap_justify tick self region size }
+        ensures says { (rect_number result ≡ next_widget_space_ignore_wrap_justify_number tick self region size) × (rect_value result ≡ rect_or_zero (rect_number result) (next_widget_space_ignore_wrap_justify tick self region size)) }
     {
         let d = self.main_dir;
         let rect = widgets::next_widget_space_ignore_wrap_justify(self, region, size);
@@ -120,8 +120,8 @@ impl Layout {
     }
 
     pub fn next_widget_position(self, region: Region) -> PosAnswer
-        ensures value { result ≡ checked_next_widget_position tick self region }
-        ensures result_value { (pos_number result ≡ next_widget_position_number tick self region) × (pos_value result ≡ pos_or_zero (pos_number result) (next_widget_position tick self region)) }
+        ensures answer { result ≡ checked_next_widget_position tick self region }
+        ensures says { (pos_number result ≡ next_widget_position_number tick self region) × (pos_value result ≡ pos_or_zero (pos_number result) (next_widget_position tick self region)) }
     {
         let d = self.main_dir;
         let pos = widgets::next_widget_position(self, region);

@@ -69,8 +69,8 @@ impl Placer {
     }
 
     pub fn align_size_within_rect(self, size: Vec2, outer: Rect) -> RectAnswer
-        ensures value { result ≡ checked_align_size_within_rect tick self size outer }
-        ensures result_value { (rect_number result ≡ align_size_within_rect_number tick self size outer) × (rect_value result ≡ rect_or_zero (rect_number result) (align_size_within_rect tick self size outer)) }
+        ensures answer { result ≡ checked_align_size_within_rect tick self size outer }
+        ensures says { (rect_number result ≡ align_size_within_rect_number tick self size outer) × (rect_value result ≡ rect_or_zero (rect_number result) (align_size_within_rect tick self size outer)) }
     {
         let rect = rules::align_size_within_rect(self, size, outer);
         let rest = lesser_number(size_fault(size), rect_fault(outer));
@@ -78,15 +78,15 @@ impl Placer {
     }
 
     pub fn available_rect_before_wrap(self) -> RectAnswer
-        ensures value { result ≡ checked_available_rect_before_wrap tick self }
-        ensures result_value { (rect_number result ≡ available_rect_before_wrap_number tick self) × (rect_value result ≡ rect_or_zero (rect_number result) (available_rect_before_wrap tick self)) }
+        ensures answer { result ≡ checked_available_rect_before_wrap tick self }
+        ensures says { (rect_number result ≡ available_rect_before_wrap_number tick self) × (rect_value result ≡ rect_or_zero (rect_number result) (available_rect_before_wrap tick self)) }
     {
         placed_rect(placer_fault(self), rules::available_rect_before_wrap(self))
     }
 
     pub fn available_size(self) -> SizeAnswer
-        ensures value { result ≡ checked_available_size self }
-        ensures result_value { (size_number result ≡ available_size_number self) × (size_value result ≡ size_or_zero (size_number result) (available_size self)) }
+        ensures answer { result ≡ checked_available_size self }
+        ensures says { (size_number result ≡ available_size_number self) × (size_value result ≡ size_or_zero (size_number result) (available_size self)) }
     {
         let size = rules::available_size(self);
         let after = outside_domain(pair_fault(size.x, size.y));
@@ -94,8 +94,8 @@ impl Placer {
     }
 
     pub fn next_space(self, child_size: Vec2, item_spacing: Vec2) -> RectAnswer
-        ensures value { result ≡ checked_next_space tick self child_size item_spacing }
-        ensures result_value { (rect_number result ≡ next_space_number tick self child_size item_spacing) × (rect_value result ≡ rect_or_zero (rect_number result) (next_space tick self child_size item_spacing)) }
+        ensures answer { result ≡ checked_next_space tick self child_size item_spacing }
+        ensures says { (rect_number result ≡ next_space_number tick self child_size item_spacing) × (rect_value result ≡ rect_or_zero (rect_number result) (next_space tick self child_size item_spacing)) }
     {
         let frame = rules::next_space(self, child_size, item_spacing);
         let rest = lesser_number(
@@ -106,8 +106,8 @@ impl Placer {
     }
 
     pub fn next_widget_position(self) -> PosAnswer
-        ensures value { result ≡ checked_next_widget_position tick self }
-        ensures result_value { (pos_number result ≡ next_widget_position_number tick self) × (pos_value result ≡ pos_or_zero (pos_number result) (next_widget_position tick self)) }
+        ensures answer { result ≡ checked_next_widget_position tick self }
+        ensures says { (pos_number result ≡ next_widget_position_number tick self) × (pos_value result ≡ pos_or_zero (pos_number result) (next_widget_position tick self)) }
     {
         let pos = rules::next_widget_position(self);
         let after = outside_domain(pair_fault(pos.x, pos.y));
@@ -115,8 +115,8 @@ impl Placer {
     }
 
     pub fn justify_and_align(self, rect: Rect, child_size: Vec2) -> RectAnswer
-        ensures value { result ≡ checked_justify_and_align tick self rect child_size }
-        ensures result_value { (rect_number result ≡ justify_and_align_number tick self rect child_size) × (rect_value result ≡ rect_or_zero (rect_number result) (justify_and_align tick self rect child_size)) }
+        ensures answer { result ≡ checked_justify_and_align tick self rect child_size }
+        ensures says { (rect_number result ≡ justify_and_align_number tick self rect child_size) × (rect_value result ≡ rect_or_zero (rect_number result) (justify_and_align tick self rect child_size)) }
     {
         let widget = rules::justify_and_align(self, rect, child_size);
         let rest = lesser_number(rect_fault(rect), size_fault(child_size));
@@ -210,8 +210,8 @@ impl Placer {
     }
 
     pub fn next_widget_space_ignore_wrap_justify(self, size: Vec2) -> RectAnswer
-        ensures value { result ≡ checked_next_widget_space_ignore_wrap_justify tick self size }
-        ensures result_value { (rect_number result ≡ next_widget_space_ignore_wrap_justify_number tick self size) × (rect_value result ≡ rect_or_zero (rect_number result) (next_widget_space_ignore_wrap_justify tick self size)) }
+        ensures answer { result ≡ checked_next_widget_space_ignore_wrap_justify tick self size }
+        ensures says { (rect_number result ≡ next_widget_space_ignore_wrap_justify_number tick self size) × (rect_value result ≡ rect_or_zero (rect_number result) (next_widget_space_ignore_wrap_justify tick self size)) }
     {
         let rect = rules::next_widget_space_ignore_wrap_justify(self, size);
         placed_rect(lesser_number(placer_fault(self), size_fault(size)), rect)

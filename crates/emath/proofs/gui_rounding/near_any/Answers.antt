@@ -6,11 +6,11 @@ use Rattle.emath.proofs.gui_rounding.near_any.Goals as goal
 
 pub near-requires : goal.near-requires
 unfolding of_bits neg
-near-requires c = record { t = T_of c.if-y-3.true; t_2 = T_of c.if-y.true }
+near-requires c = record { above_zero = T_of c.if-y-3.true; below_limit = T_of c.if-y.true }
 
 pub near-requires-then-y-4 : goal.near-requires-then-y-4
 unfolding of_bits neg
-near-requires-then-y-4 c = let o = opposite c.args.y (T_of c.well_formed.0.1) c.if-y-2.true c.if-y-4.true in record { t = o.0; t_2 = o.1 }
+near-requires-then-y-4 c = let o = opposite c.args.y (T_of c.well_formed.0.1) c.if-y-2.true c.if-y-4.true in record { above_zero = o.0; below_limit = o.1 }
 
 pub returns-then-y-4 : goal.returns-then-y-4
 unfolding of_bits neg

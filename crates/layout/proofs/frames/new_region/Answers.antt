@@ -1,0 +1,6 @@
+use Rattle.layout.specs.Rules.{new_region}
+use Rattle.layout.proofs.frames.new_region.Goals as goal
+
+pub returns : goal.returns
+unfolding new_region
+returns c = rw (c.reaching_to-g.ensures, c.is_horizontal.ensures, c.new_cursor-cursor.ensures)

@@ -55,8 +55,8 @@ pub fn total_of(xs: &[f32], n: usize) -> f32
 
 // Whether the first `n` of both are equal, a zero's sign aside.
 pub fn same_entries(xs: &[f32], ys: &[f32], n: usize) -> bool
-    requires n_in_bounds { n ≤ length xs.now }
-    requires n_in_bounds_2 { n ≤ length ys.now }
+    requires in_xs { n ≤ length xs.now }
+    requires in_ys { n ≤ length ys.now }
     ensures { result ≡ same_entries (take n xs.now) (take n ys.now) }
 {
     let mut same = true;

@@ -54,7 +54,7 @@ stay-between d r {h} {v} {s} {k} {given} l p q a b e =
     let o : max v d ≤ get_or given r 0 = omega (arith, at_least s r (max h d), Below-get_or r u, any-default given r d 0 n) in
     (Le-lift r a (omega arith), Below-under r (max v d) b n o)
 
-again-heights : {d r : ℕ} {given k' : List ℕ} (s : List ℕ) {k : List ℕ} {l : List Step} → Run d given r k l k' → Le s k → Below k given → given ≡ rows_from d r s l → k' ≡ given
+again-heights : {d : ℕ} {given : List ℕ} {r : ℕ} {k' : List ℕ} (s : List ℕ) {k : List ℕ} {l : List Step} → Run d given r k l k' → Le s k → Below k given → given ≡ rows_from d r s l → k' ≡ given
 unfolding rows_from
 again-heights s done a b e = squeeze a (rw e at b) ∙ sym e
 again-heights {d = d} s (placed {r = r} {h = h} {l = l} v p q t) a b e = let i = stay-between d r l p q a b e in again-heights (lift s r (max h d)) t i.0 i.1 e

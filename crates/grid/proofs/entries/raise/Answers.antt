@@ -1,0 +1,7 @@
+use Rattle.grid.specs.Entries.{raised}
+use borrow.Author.Rules.{rules}
+use Rattle.grid.proofs.entries.raise.Goals as goal
+
+pub returns : goal.returns
+unfolding raised
+returns c = rw (c.clear.ensures, c.max-e.ensures, c.entry.ensures)

@@ -1,0 +1,13 @@
+use borrow.Author.Tests.{le-ltb, lt-ltb}
+use Rattle.grid.specs.Memories.{row_height}
+use Rattle.grid.specs.Grids.{row_ended, end_row}
+use borrow.Author.Rules.{rules}
+use Rattle.grid.proofs.lent.ended_cursor.Goals as goal
+
+pub returns-then-state-lt-MAX_ROWS : goal.returns-then-state-lt-MAX_ROWS
+unfolding end_row row_ended row_height
+returns-then-state-lt-MAX_ROWS c pw ph ws = rw (lt-ltb _ _ c.if-state-lt-MAX_ROWS.true, c.entry-height.ensures)
+
+pub returns : goal.returns
+unfolding end_row
+returns c pw ph ws = rw (le-ltb _ _ c.if-state-lt-MAX_ROWS.false)

@@ -1,0 +1,7 @@
+use mathlib.Core.Path.{refl}
+use Rattle.grid.specs.Entries.{zeros}
+use Rattle.grid.proofs.memories.empty_memory.Goals as goal
+
+pub returns : goal.returns
+unfolding zeros
+returns c = refl

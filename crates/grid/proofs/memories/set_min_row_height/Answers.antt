@@ -1,0 +1,12 @@
+use borrow.Author.Tests.{le-ltb, lt-ltb}
+use borrow.Author.Rules.{rules}
+use Rattle.grid.specs.Memories.{set_min_row_height}
+use Rattle.grid.proofs.memories.set_min_row_height.Goals as goal
+
+pub returns-then-row-lt-MAX_ROWS : goal.returns-then-row-lt-MAX_ROWS
+unfolding set_min_row_height
+returns-then-row-lt-MAX_ROWS c = rw (lt-ltb _ _ c.if-row-lt-MAX_ROWS.true, c.raised_count.ensures, c.raise.ensures)
+
+pub returns : goal.returns
+unfolding set_min_row_height
+returns c = rw (le-ltb _ _ c.if-row-lt-MAX_ROWS.false)

@@ -1,0 +1,7 @@
+use Rattle.placer.specs.Operations.{checked_set_min_height}
+use Rattle.emath.specs.Refusals.{least}
+use Rattle.placer.proofs.Placer.set_min_height.Goals as goal
+
+pub returns : goal.returns
+unfolding checked_set_min_height least
+returns c = rw (c.changed_placer.ensures, c.lesser_number.ensures, c.length_fault.ensures, c.placer_fault.ensures, c.set_min_height-new.ensures)

@@ -1,0 +1,7 @@
+use Rattle.placer.specs.Refusals.{advance_fault}
+use borrow.Author.Rules.{rules}
+use Rattle.placer.proofs.faults.advance_fault.Goals as goal
+
+pub returns : goal.returns
+unfolding advance_fault
+returns c = c.cell_fault.ensures

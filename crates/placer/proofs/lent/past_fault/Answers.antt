@@ -1,0 +1,7 @@
+use Rattle.placer.specs.Implementation.Lent.{past_part}
+use borrow.Author.Rules.{rules}
+use Rattle.placer.proofs.lent.past_fault.Goals as goal
+
+pub returns : goal.returns
+unfolding past_part
+returns c pw ph = rw (c.lesser_number.ensures, c.raised_fault.ensures pw ph, c.region_fault.ensures)

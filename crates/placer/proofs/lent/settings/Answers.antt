@@ -1,0 +1,5 @@
+use borrow.Author.Rules.{rules}
+use Rattle.placer.proofs.lent.settings.Goals as goal
+
+pub returns : goal.returns
+returns c = rw c.settings.ensures

@@ -1,0 +1,5 @@
+use borrow.Author.Rules.{rules}
+use Rattle.placer.proofs.lent.state.Goals as goal
+
+pub returns : goal.returns
+returns c = rw c.state.ensures

@@ -1,0 +1,10 @@
+use Rattle.placer.specs.Rules.{next_space}
+use Rattle.placer.proofs.rules.next_space.Goals as goal
+
+pub returns-then-placer : goal.returns-then-placer
+unfolding next_space
+returns-then-placer c = rw (c.if-placer.true, c.next_cell.ensures)
+
+pub returns : goal.returns
+unfolding next_space
+returns c = rw (c.if-placer.false, c.next_frame.ensures)

@@ -1,6 +1,4 @@
 // layout.rs's two calls on a lent Region, thinly, over the calls by value.
-// The borrow checker covers no function that lends a struct, so each of these is proved by a walk of its MIR, by hand. `edit` takes and gives
-// plain values: whoever calls it needs no walk.
 #![tactic(auto)]
 
 ghost use Rattle.std.specs.Prelude.{◌≡◌};

@@ -1,0 +1,9 @@
+use borrow.Author.Tests.{le-ltb, lt-ltb}
+use borrow.Author.Rules.{rules}
+use Rattle.records.proofs.sheets.ended.Goals as goal
+
+pub returns-then-room-w : goal.returns-then-room-w
+returns-then-room-w c = rw (lt-ltb _ _ c.if-room-w.true)
+
+pub returns : goal.returns
+returns c = rw (le-ltb _ _ c.if-room-w.false)

@@ -21,7 +21,7 @@ module _ (s : List ℕ) (b c : Bool) (e : b ≡ heading_fits s) (h : b ≡ true)
     by-options = rw (← e, h, ← f, i, ← g)
 
     pub no-options : d ≡ false → (heading_in s).records ≡ heading_fault s
-    no-options z = rw (z) at (sym by-options)
+    no-options z = rw z at (sym by-options)
 
     pub all_fit : d ≡ true → 0 ≡ heading_fault s
-    all_fit z = rw (z) at (sym by-options)
+    all_fit z = rw z at (sym by-options)

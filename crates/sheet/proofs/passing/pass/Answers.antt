@@ -1,0 +1,5 @@
+use borrow.Author.Rules.{rules}
+use Rattle.sheet.proofs.passing.pass.Goals as goal
+
+pub returns : goal.returns
+returns c = c.pass_caching.ensures.0

@@ -1,0 +1,9 @@
+use Rattle.emath.specs.Refusals.{least}
+use Rattle.placer.specs.Refusals.{advance_fault}
+use Rattle.sheet.specs.Implementation.Calls.{given_number}
+use borrow.Author.Rules.{rules}
+use Rattle.sheet.proofs.steps.given_number.Goals as goal
+
+pub returns : goal.returns
+unfolding given_number advance_fault least
+returns c pw ph ws hs = rw (c.lesser_number-2.ensures, c.lesser_number.ensures, c.pair_fault.ensures, c.size_fault.ensures, c.cell_fault-place.ensures)

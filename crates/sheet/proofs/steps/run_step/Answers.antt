@@ -1,0 +1,39 @@
+use mathlib.Core.Path.{ap, ◌∙◌}
+use Rattle.sheet.specs.Implementation.Calls.{called_by, step_result}
+use borrow.Author.Rules.{rules}
+use Rattle.sheet.proofs.steps.run_step.Goals as goal
+
+pub place-requires : goal.place-requires
+place-requires c = c.requires
+
+pub returns-in-Widget : goal.returns-in-Widget
+unfolding step_result
+returns-in-Widget c = rw c.in-Widget.is c.place.ensures
+
+pub returns-in-Space : goal.returns-in-Space
+unfolding step_result
+returns-in-Space c = rw c.in-Space.is (c.called.ensures _ _ _ _ _ ∙ ap called_by (c.advance_cursor.ensures _ _ _ _ c.requires.none))
+
+pub returns-in-RowHeight : goal.returns-in-RowHeight
+unfolding step_result
+returns-in-RowHeight c = rw c.in-RowHeight.is (c.called-in-RowHeight.ensures _ _ _ _ _ ∙ ap called_by (c.set_row_height.ensures _ _ _ _ c.requires.none))
+
+pub returns-in-MaxWidth : goal.returns-in-MaxWidth
+unfolding step_result
+returns-in-MaxWidth c = rw c.in-MaxWidth.is (c.called-in-MaxWidth.ensures _ _ _ _ _ ∙ ap called_by (c.set_max_width.ensures _ _ _ _ c.requires.none))
+
+pub returns-in-MaxHeight : goal.returns-in-MaxHeight
+unfolding step_result
+returns-in-MaxHeight c = rw c.in-MaxHeight.is (c.called-in-MaxHeight.ensures _ _ _ _ _ ∙ ap called_by (c.set_max_height.ensures _ _ _ _ c.requires.none))
+
+pub returns-in-MinWidth : goal.returns-in-MinWidth
+unfolding step_result
+returns-in-MinWidth c = rw c.in-MinWidth.is (c.called-in-MinWidth.ensures _ _ _ _ _ ∙ ap called_by (c.set_min_width.ensures _ _ _ _ c.requires.none))
+
+pub returns-in-MinHeight : goal.returns-in-MinHeight
+unfolding step_result
+returns-in-MinHeight c = rw c.in-MinHeight.is (c.called-in-MinHeight.ensures _ _ _ _ _ ∙ ap called_by (c.set_min_height.ensures _ _ _ _ c.requires.none))
+
+pub returns-in-RowEnd : goal.returns-in-RowEnd
+unfolding step_result
+returns-in-RowEnd c = rw c.in-RowEnd.is (c.called-in-RowEnd.ensures _ _ _ _ _ ∙ ap called_by (c.end_row.ensures _ _ _ c.requires.none))

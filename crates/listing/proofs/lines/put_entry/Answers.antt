@@ -1,0 +1,16 @@
+use mir.Facts.{to_z_pos}
+use mir.Val.{to_z}
+use mir.Syntax.{w32}
+use mathlib.Core.Path.{◌≡◌}
+use native.Mathlib.Omega.{arith}
+use Rattle.text.proofs.Signs.{Same}
+use lib.IntN.{pos}
+use borrow.Author.Rules.{rules}
+use Rattle.listing.proofs.lines.put_entry.Goals as goal
+
+pub returns : goal.returns
+returns c =
+    let a = c.args in
+    let e0 : to_z w32 a.index ≡ pos a.index = to_z_pos w32 (omega arith) in
+    let e1 : Same c.tick.result = search rules in
+    rw (e0, e1, c.tick.ensures) at c.put_line.ensures

@@ -1,0 +1,15 @@
+use mir.Facts.{to_z_pos}
+use mir.Val.{to_z}
+use mir.Syntax.{w32}
+use mathlib.Core.Path.{◌≡◌}
+use native.Mathlib.Omega.{arith}
+use lib.IntN.{pos}
+use borrow.Author.Rules.{rules}
+use Rattle.listing.proofs.lines.put_refusal.Goals as goal
+
+pub returns : goal.returns
+returns c =
+    let a = c.args in
+    let e0 : to_z w32 a.number ≡ pos a.number = to_z_pos w32 (omega arith) in
+    let e1 : to_z w32 a.«record» ≡ pos a.«record» = to_z_pos w32 (omega arith) in
+    (rw (e0, e1) at c.put_line.ensures, omega arith)

@@ -1,0 +1,30 @@
+use mir.Facts.{to_z_pos}
+use mir.Val.{to_z}
+use mir.Syntax.{w32}
+use mathlib.Core.Path.{◌≡◌}
+use native.Mathlib.Omega.{arith}
+use Rattle.text.proofs.Signs.{Same}
+use lib.IntN.{pos}
+use borrow.Author.Tests.{eq-eqb, ne_eqb}
+use Rattle.listing.specs.Implementation.ListWriter.{put_widget}
+use borrow.Author.Rules.{rules}
+use Rattle.listing.proofs.lines.put_widget.Goals as goal
+
+pub returns-then-here-eq0 : goal.returns-then-here-eq0
+unfolding put_widget
+returns-then-here-eq0 c = rw (eq-eqb _ _ c.if-here-eq0.true)
+
+pub returns : goal.returns
+unfolding put_widget
+returns c =
+    let a = c.args in
+    let e0 : to_z w32 a.number ≡ pos a.number = to_z_pos w32 (omega arith) in
+    let e1 : Same c.place.result = search rules in
+    let e2 : Same c.place-2.result = search rules in
+    let e3 : Same c.place-3.result = search rules in
+    let e4 : Same c.place-4.result = search rules in
+    let e5 : Same c.place-5.result = search rules in
+    let e6 : Same c.place-6.result = search rules in
+    let e7 : Same c.place-7.result = search rules in
+    let e8 : Same c.place-8.result = search rules in
+    rw (ne_eqb _ _ c.if-here-eq0.false) (rw (e0, e1, e2, e3, e4, e5, e6, e7, e8, c.place.ensures, c.place-2.ensures, c.place-3.ensures, c.place-4.ensures, c.place-5.ensures, c.place-6.ensures, c.place-7.ensures, c.place-8.ensures) at c.put_line.ensures)

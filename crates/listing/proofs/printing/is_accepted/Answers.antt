@@ -1,0 +1,11 @@
+use Rattle.listing.specs.Implementation.ListWriter.{is_accepted}
+use borrow.Author.Rules.{rules}
+use Rattle.listing.proofs.printing.is_accepted.Goals as goal
+
+pub returns-in-Accepted : goal.returns-in-Accepted
+unfolding is_accepted
+returns-in-Accepted c = rw c.in-Accepted.is
+
+pub returns-in-Refused : goal.returns-in-Refused
+unfolding is_accepted
+returns-in-Refused c = rw c.in-Refused.is

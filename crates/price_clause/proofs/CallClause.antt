@@ -50,6 +50,8 @@ frames-in : (cs ds : List Cell) (xs ys : List ℤ) → Forall₂ (CellNoLess 5) 
     → (k : ℕ) → k < length cs → FrameNoLess (frame_in (written cs ++ xs) k) (frame_in (written ds ++ ys) k)
 unfolding written
 frames-in [] [] xs ys Forall₂.nil k l = absurd (omega arith)
+frames-in [] (d ∷ ds) xs ys r k l = elim r [ ]
+frames-in (c ∷ cs) [] xs ys r k l = elim r [ ]
 frames-in (c ∷ cs) (d ∷ ds) xs ys (Forall₂.cons r rs) zero l = r
 frames-in (c ∷ cs) (d ∷ ds) xs ys (Forall₂.cons r rs) (suc k) l =
     rw (next-frame c (written cs ++ xs) k, next-frame d (written ds ++ ys) k) (frames-in cs ds xs ys rs k (omega arith))

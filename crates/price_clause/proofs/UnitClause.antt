@@ -69,6 +69,12 @@ module _ (k : ℕ) (l : k ≤ 6) where
 
   grows : (u : SizeUnit) {sizes sizes' : List Size} {a b : List Step} → Sized k u sizes a → Sized k u sizes' b → Alike a b → Forall₂ NoSmaller sizes sizes' → Grown a b
   grows u Sized.none Sized.none Alike.none Forall₂.nil = Grown.none
+  grows u Sized.none (Sized.control W H x) z ns = elim z [ ]
+  grows u Sized.none (Sized.row_end x) z ns = elim z [ ]
+  grows u (Sized.control W H x) Sized.none z ns = elim z [ ]
+  grows u (Sized.control W H x) (Sized.row_end y) z ns = elim z [ ]
+  grows u (Sized.row_end x) Sized.none z ns = elim z [ ]
+  grows u (Sized.row_end x) (Sized.control W H y) z ns = elim z [ ]
   grows u (Sized.control W H x) (Sized.control W' H' y) (Alike.control s) (Forall₂.cons n rest) = Grown.control (measured-le W W' n.width) (measured-le H H' n.height) (grows u x y s rest)
   grows u (Sized.row_end x) (Sized.row_end y) (Alike.row_end s) ns = Grown.row_end (grows u x y s ns)
 

@@ -17,7 +17,6 @@ use Rattle.sheet.specs.Texts.{sheet_in}
 use Rattle.sheet.specs.Slices.{Called, controls}
 use Rattle.sheet.specs.declared.Laid.TheVariants as laid
 use Rattle.sheet.specs.declared.Passed.{Passed}
-use Rattle.pass_laws.specs.Columns.{spacings}
 use Rattle.pass_laws.specs.WholeSheets.{WholeSheet}
 use Rattle.price_clause.specs.Sheets.{Grown, NoNegativeSpacing, Strip}
 use Rattle.price_clause.specs.PriceClause.{Accepted}
@@ -41,7 +40,11 @@ pub record GrownText (a b : List ℕ) : Type 0 where
   pub records : Alike (sheet_in a).steps (sheet_in b).steps
   pub sizes : Forall₂ NoSmaller (sizes_in a) (sizes_in b)
 
--- ---- RULES 10.14: the widths of some controls, as they are written, and in steps
+-- ---- RULES 10.14: n controls have n - 1 spacings between them, none for none
+abbrev pub spacings : ℤ → ℕ → ℤ
+spacings gap n = pos (n - 1) *ℤ gap
+
+-- RULES 10.14: the widths of some controls, as they are written, and in steps
 abbrev pub widths : List Size → List ℤ
 widths sizes = map (λ (z : Size). z.width) sizes
 

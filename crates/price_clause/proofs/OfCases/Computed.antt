@@ -57,8 +57,7 @@ use Rattle.records.specs.Writers.{H, M, W, S, E}
 use Rattle.records.specs.Conversions.{step_parts, hundredth_parts, total}
 use Rattle.records.specs.Controls.{only_controls, sizes_in}
 use Rattle.records.specs.declared.SizeUnit.TheVariants.{Hundredths}
-use Rattle.price_clause.specs.UnitClause.{Alike, NoSmaller, GrownText, widths, Margin}
-use Rattle.pass_laws.specs.Columns.{spacings}
+use Rattle.price_clause.specs.UnitClause.{Alike, NoSmaller, GrownText, spacings, widths, Margin}
 use Rattle.price_clause.proofs.PriceClause.{price-clause}
 use Rattle.price_clause.proofs.OfCases.CaseTests.{found-as-expected}
 

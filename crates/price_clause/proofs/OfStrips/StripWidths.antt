@@ -37,8 +37,7 @@ use Rattle.price_clause.specs.Sheets.{NoNegativeSpacing, Strip}
 use Rattle.sheet.specs.Ticks.{Ticks, ticks, in_ticks, width}
 use Rattle.pass_laws.specs.EachCell.{EachCell}
 use Rattle.pass_laws.specs.Plates.{Holds, HoldsFrames, Smallest}
-use Rattle.price_clause.specs.UnitClause.{widths, step_widths}
-use Rattle.pass_laws.specs.Columns.{spacings}
+use Rattle.price_clause.specs.UnitClause.{spacings, widths, step_widths}
 use Rattle.price_clause.proofs.OfStrips.StripPlaces.{Place, placer_at, Few, Sound, le-steps, zero-steps, start_of, strip-starts}
 use Rattle.price_clause.proofs.OfStrips.StripSteps.{past_control, row-end-goes, control-goes}
 use Rattle.price_clause.proofs.OfStrips.Strips.{ticks-is, ticks-rect}

@@ -37,7 +37,3 @@ grid_full = 8
 -- of what a call would answer: an edge outside the domain
 abbrev pub outside : ℕ
 outside = 9
-
--- of a stretch: the sheet is no grid of controls with a column, or cannot be made so wide
-abbrev pub unstretchable : ℕ
-unstretchable = 11

@@ -16,5 +16,3 @@ pub const NOT_IN_GRID: u8 = 7;
 pub const GRID_FULL: u8 = 8;
 
 pub const OUTSIDE: u8 = 9;
-
-pub const UNSTRETCHABLE: u8 = 11;

@@ -14,6 +14,7 @@ mod Settling
 pub mod FurtherPasses
 -- A settled grid of controls stands in columns.
 pub mod GridStarts
+pub mod ColumnPlaces
 pub mod SettledColumns
 -- The cells of a pass, one by one.
 mod CellRuns

@@ -1,4 +1,4 @@
--- A settled grid of controls stands in columns (RULES 11.7): each frame is its column, from its start to its end by the widths that the
+-- A settled grid of controls stands in columns: each frame is its column, from its start to its end by the widths that the
 -- memory has, and each widget stands at its frame's left and is no wider. For steps of 1 to 1/64 point, and any spacing. Assumes nothing.
 use Prim.Native.Nat.{ℕ, zero, suc, ◌+◌, ◌≤◌, ◌<◌, max}
 use mathlib.Core.Path.{◌≡◌, refl, ap, sym, ◌∙◌, subst}
@@ -47,7 +47,7 @@ use Rattle.sheet.specs.Ticks.{ticks}
 use Rattle.sheet.proofs.Runs.{run-goes}
 use Rattle.sheet.proofs.Passes.{GridPass, grid-pass, start, grid_start}
 use Rattle.pass_laws.specs.WholeSheets.{WholeSheet, WholeSteps}
-use Rattle.pass_laws.specs.Columns.{columns_from, column_widths, width_in, start_of, end_of, InColumn, InColumns}
+use Rattle.pass_laws.proofs.ColumnPlaces.{columns_from, column_widths, width_in, start_of, end_of, InColumn, InColumns}
 use Rattle.pass_laws.proofs.GridMoves.{GridCell, grid-cell, frame_is, widget-is, row-ended}
 use Rattle.pass_laws.proofs.ColumnLaw.{not_negative_lem, edge-not-negative}
 use Rattle.pass_laws.proofs.Lists.{entry-get}
@@ -310,7 +310,7 @@ module _ (k : ℕ) (l : k ≤ 6) (s : Sheet) (w : WholeSheet k s) (g : s.heading
   edge-counted : {x : Float} (e : Edge k x) → e.steps ≡ ticks k x
   edge-counted {x} e = let z = edge-small k (omega arith) e in sym (ap (λ (y : Float). ticks k y) e.is ∙ back k l e.steps (omega (arith, z)))
 
-  -- RULES 11.7
+  -- each cell in its column
   pub stands-in-columns : InColumns k (ticks k s.heading.max_rect.left) (ticks k s.heading.spacing.x) (width_in (column_widths k (passes k s none₀ 1).memory)) (columns_from 0 s.steps) (passes k s none₀ 1).cells
   unfolding passes
   stands-in-columns =

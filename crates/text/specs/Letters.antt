@@ -37,7 +37,7 @@ N = 78
 abbrev pub T : ℕ
 T = 84
 
--- RULES 7.2: lines of a list, beside W: the plate, a column, a row, what a stretch shares out, a stretched column, a refusal
+-- RULES 7.2: lines of a list, beside W: the plate, a column, a row, a refusal
 abbrev pub P : ℕ
 P = 80
 
@@ -46,12 +46,6 @@ C = 67
 
 abbrev pub D : ℕ
 D = 68
-
-abbrev pub Q : ℕ
-Q = 81
-
-abbrev pub Z : ℕ
-Z = 90
 
 abbrev pub X : ℕ
 X = 88

@@ -28,11 +28,34 @@ use Rattle.sheet.specs.Pass.{Sheet}
 use Rattle.pass_laws.specs.WholeSheets.{WholeSheet}
 use Rattle.price_clause.specs.Sheets.{NoNegativeSpacing}
 use Rattle.sheet.proofs.Passes.{GridPass, start, grid_start}
-use Rattle.pass_laws.proofs.GridStarts.{corner-left, corner-top, max_self}
 use Rattle.pass_laws.proofs.ColumnLaw.{not_negative_lem, least-cell}
 use Rattle.price_clause.proofs.OfGrids.GridStates.{engine_state_at, engine_state_of, given_of}
 use Rattle.price_clause.proofs.OfGrids.GridSteps.{grid-direction}
 use Rattle.price_clause.proofs.OfGrids.GridCounts.{length-counted, gap-counted}
+
+-- ---- a grid's directions start at max_rect's corner
+corner-left : (d : Direction) (m : Rect) → fits_grid d ≡ true → (initial_cursor d m).left ≡ m.left
+unfolding fits_grid initial_cursor
+corner-left LeftToRight m h = refl
+corner-left RightToLeft m h = absurd (true≢false (sym h))
+corner-left TopDown m h = refl
+corner-left BottomUp m h = absurd (true≢false (sym h))
+
+corner-top : (d : Direction) (m : Rect) → fits_grid d ≡ true → (initial_cursor d m).top ≡ m.top
+unfolding fits_grid initial_cursor
+corner-top LeftToRight m h = refl
+corner-top RightToLeft m h = absurd (true≢false (sym h))
+corner-top TopDown m h = refl
+corner-top BottomUp m h = absurd (true≢false (sym h))
+
+max_self : (x : Float) → max_f x x ≡ x
+unfolding max_f
+max_self x = go (lt x x) (ne x x)
+  where
+    go : (a b : Bool) → cond a x (cond b x x) ≡ x
+    go true b = refl
+    go false true = refl
+    go false false = refl
 
 -- ---- a new grid in a region that starts at m's corner
 module _ (m : Rect) (sp smallest : Vec2) (start : ℕ) where

@@ -7,7 +7,7 @@ use lib.Ieee.{Float, nan, inf, binary32, of_bits, neg, add, mul, div, le, lt, eq
 use Rattle.emath.specs.Rectangles.{centre_on, round_f, round_by, round_ui}
 use Rattle.emath.specs.Domain.{limit, within}
 use Rattle.emath.specs.Steps.{two, signed, val, most, Edge}
-use Rattle.emath.proofs.Whole.{Within, within-unsigned_abs, sum, more-neg, less-neg, same, le_z→, →le_z}
+use Rattle.emath.proofs.Whole.{Within, within-unsigned_abs, sum, more-neg, less-neg, le_z→, →le_z}
 use Rattle.emath.proofs.Exact.{Small}
 use Rattle.emath.proofs.Values.{val-add, val-div, val-halve}
 use Rattle.emath.proofs.Order.{val_mono}

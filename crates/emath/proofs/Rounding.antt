@@ -3,7 +3,7 @@
 use Rattle.std.proofs.Common.{◌≡◌, ℕ, zero, suc, ◌+◌, ◌-◌, ◌*◌, ◌%◌, ◌^◌, ◌<◌, ◌≤◌, Bool, true, false, not, ◌&&◌, T, eqb, ltb, leb, ℤ, pos, negsuc, nat_abs, sym, refl, ap, ◌∙◌, le_trans, le_of_suc-le-suc, add-zero, lt_of_not-le, zero-add, not-le_of_lt, le_of_mul-le-mul_right, arith, lit<, eqb→eq, ltb→lt, leb→le, pow_pos, pow-add}
 use lib.Dec.{nleb→lt}
 use lib.Pow.{pow-lt}
-use lib.Ieee.{Float, nan, inf, fin, binary32, of_bits, up, down, round, mul, div, fits, le, lt}
+use lib.Ieee.{Float, nan, inf, fin, binary32, of_bits, up, down, round, mul, div, fits}
 use lib.Ieee.Fits.{down_pos, and_l, and_r}
 use lib.Ieee.Exact.{HasValue}
 use Rattle.emath.specs.Rectangles.{near_up, round_f, round_by, round_ui}

@@ -1,7 +1,6 @@
 -- The columns of a grid: which W are in one, and where columns start. What a stretch's rules will say of them; no promise rests on it yet.
-use Rattle.std.specs.Prelude.{◌≡◌, cond, ℕ, zero, suc, ◌+◌, ◌-◌, ◌≤◌, eqb, ℤ, pos, nat_abs, ◌+ℤ◌, ◌*ℤ◌, get_or, Float}
+use Rattle.std.specs.Prelude.{◌≡◌, ℕ, zero, suc, ◌+◌, ◌-◌, ◌≤◌, ℤ, pos, nat_abs, ◌+ℤ◌, ◌*ℤ◌, get_or, Float}
 use mathlib.Core.List.{List, [], ◌∷◌, map, Forall₂}
-use Rattle.emath.specs.Rectangles.{max_f}
 use Rattle.grid.specs.Memories.{widths}
 use Rattle.grid.specs.declared.Memory.{Memory}
 use Rattle.records.specs.declared.Step.{Step}

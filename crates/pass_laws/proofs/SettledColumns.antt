@@ -2,16 +2,16 @@
 -- memory has, and each widget stands at its frame's left and is no wider. For steps of 1 to 1/64 point, and any spacing. Assumes nothing.
 use Prim.Native.Nat.{ℕ, zero, suc, ◌+◌, ◌≤◌, ◌<◌, max}
 use mathlib.Core.Path.{◌≡◌, refl, ap, sym, ◌∙◌, subst}
-use mathlib.Core.Bool.{Bool, true, false, true≢false}
+use mathlib.Core.Bool.{true, false, true≢false}
 use mathlib.Core.List.{List, [], ◌∷◌, map, Forall₂}
 use native.Mathlib.Omega.{arith}
 use native.Mathlib.Numerals.{add-one}
 use lib.IntN.{ℤ, pos, nat_abs, ◌+ℤ◌}
 use lib.ListN.{length, get_or}
-use lib.Ieee.{Float, binary32, add}
+use lib.Ieee.{Float}
 use Rattle.emath.specs.Rectangles.{zero_f, max_f, round_rect, intersect}
 use Rattle.emath.specs.Steps.{val, most, Edge}
-use Rattle.emath.proofs.Whole.{Within, within-unsigned_abs, sum, same, max_z, max-is, whole}
+use Rattle.emath.proofs.Whole.{Within, within-unsigned_abs, sum, max_z, max-is, whole}
 use Rattle.emath.proofs.Values.{val-add, val-max}
 use Rattle.emath.proofs.Rounding.{val-whole}
 use Rattle.emath.proofs.Casts.{points-to-steps}
@@ -41,13 +41,13 @@ use Rattle.model.proofs.WholeSteps.Lists.{Below, Below-refl, Below-trans, Below-
 use Rattle.model.proofs.WholeSteps.Settled.{cols_from}
 use Rattle.model.proofs.AnyNumbers.Embedding.{Upto, empty, upto, upto-get_or}
 use Rattle.model.proofs.InFloats.Ticks.{len, cap}
-use Rattle.sheet.specs.Pass.{Sheet, Cell, cell_of, past_cell, widget_step, stepped, run_from, pass}
+use Rattle.sheet.specs.Pass.{Sheet, Cell, cell_of, past_cell, widget_step, stepped, run_from}
 use Rattle.sheet.specs.Passes.{passes}
 use Rattle.sheet.specs.Ticks.{ticks}
 use Rattle.sheet.proofs.Runs.{run-goes}
-use Rattle.sheet.proofs.Passes.{GridPass, grid-pass, start, grid_start}
+use Rattle.sheet.proofs.Passes.{GridPass, grid-pass, grid_start}
 use Rattle.pass_laws.specs.WholeSheets.{WholeSheet, WholeSteps}
-use Rattle.pass_laws.proofs.ColumnPlaces.{columns_from, column_widths, width_in, start_of, end_of, InColumn, InColumns}
+use Rattle.pass_laws.proofs.ColumnPlaces.{columns_from, column_widths, width_in, start_of, InColumn, InColumns}
 use Rattle.pass_laws.proofs.GridMoves.{GridCell, grid-cell, frame_is, widget-is, row-ended}
 use Rattle.pass_laws.proofs.ColumnLaw.{not_negative_lem, edge-not-negative}
 use Rattle.pass_laws.proofs.Lists.{entry-get}

@@ -1,6 +1,5 @@
 -- What the laws of a grid ask is there from the start and is carried on: a new grid's memory is sound and its heights are whole, and an
 -- advance and an end of row keep the memory sound, and what the grid adds to the cursor whole. Assumes nothing.
-use mathlib.Core.Path.{◌≡◌, refl}
 use mathlib.Core.Bool.{Bool, true, false, cond, ◌&&◌}
 use Prim.Native.Nat.{ℕ, ◌+◌, ◌≤◌, ◌<◌}
 use native.Mathlib.Omega.{arith}

@@ -4,12 +4,12 @@ use Prim.Native.Nat.{ℕ, ◌≤◌, ◌<◌}
 use mathlib.Core.Path.{◌≡◌, sym, ◌∙◌}
 use mathlib.Core.List.{List, [], ◌∷◌, Forall₂}
 use native.Mathlib.Omega.{arith}
-use lib.IntN.{ℤ, ◌-ℤ◌}
+use lib.IntN.{ℤ}
 use lib.ListN.{length}
 use lib.Signed.{◌≤ℤ◌, ≤ℤ_refl}
 use Rattle.emath.proofs.Whole.{diff, order, same, whole}
 use Rattle.sheet.specs.Pass.{Cell, plate_of}
-use Rattle.sheet.specs.Ticks.{Ticks, ticks, in_ticks, width, height}
+use Rattle.sheet.specs.Ticks.{Ticks, ticks, in_ticks}
 use Rattle.pass_laws.specs.EachCell.{EachCell, none, more}
 use Rattle.pass_laws.specs.Plates.{Holds, HoldsFrames, Smallest}
 use Rattle.pass_laws.specs.WholeCells.{WholeCells}

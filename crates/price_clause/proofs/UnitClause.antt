@@ -9,8 +9,8 @@ use lib.IntN.{ℤ, ◌+ℤ◌, ◌-ℤ◌}
 use lib.ListN.{length, length-map}
 use lib.Signed.{◌≤ℤ◌}
 use lib.Ieee.{Float, le}
-use Rattle.emath.specs.Steps.{tick, val}
-use Rattle.emath.proofs.Whole.{sum, diff, same, whole}
+use Rattle.emath.specs.Steps.{tick}
+use Rattle.emath.proofs.Whole.{sum, diff, same}
 use Rattle.emath.proofs.Tests.{T_true}
 use Rattle.emath.proofs.Values.{val-le}
 use Rattle.emath.proofs.Sums.{edge-small}
@@ -26,7 +26,7 @@ use Rattle.records.specs.Headings.{heading_in}
 use Rattle.records.specs.Sheets.{records, wrong_from}
 use Rattle.records.proofs.Checks.{clear}
 use Rattle.records.proofs.Hundredths.{converts, more-times, less-times}
-use Rattle.sheet.specs.Pass.{Sheet, pass}
+use Rattle.sheet.specs.Pass.{pass}
 use Rattle.sheet.specs.Texts.{sheet_in}
 use Rattle.sheet.specs.Slices.{Called}
 use Rattle.sheet.specs.declared.Laid.TheVariants.{Accepted}

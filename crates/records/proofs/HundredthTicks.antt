@@ -11,7 +11,7 @@ use mir.Syntax.{w32}
 use mir.Val.{SFits, to_z, of_z}
 use mir.ValLaws.{to_z-of_z}
 use Rattle.emath.specs.Steps.{tick}
-use Rattle.emath.proofs.Whole.{more, less, Within, within-unsigned_abs, sum, more-neg, less-neg, same}
+use Rattle.emath.proofs.Whole.{Within, within-unsigned_abs, sum, more-neg, less-neg, same}
 use Rattle.records.specs.Units.{nearest, from_hundredths}
 use Rattle.records.proofs.Hundredths.{more-times, less-times}
 

@@ -14,7 +14,6 @@ use Rattle.records.specs.declared.SizeUnit.TheVariants.{Steps}
 use Rattle.records.specs.Parts.{letter, ends, length_in, size_in, count_in}
 use Rattle.records.specs.Records.{pair_fits, pair_in, layout_fits, layout_in, rect_in, heading_fits, maxima_fit, maxima_in, options_in, grid_fits, step_record, widget_record, single_record, record_of, field_count, size}
 use Rattle.records.specs.declared.Step.{Step}
-use Rattle.records.specs.declared.Record.{Record}
 
 pub drop-take : (n m : ℕ) (l : List ℕ) → drop n (take m l) ≡ take (m - n) (drop n l)
 drop-take zero m l = let e : m - 0 ≡ m = omega arith in rw e

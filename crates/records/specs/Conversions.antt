@@ -1,5 +1,5 @@
 -- RULES 6.25: what holds of hundredths of a millimetre in steps of 1 / 2 ^ k point. A part is 1/635 of a step.
-use Rattle.std.specs.Prelude.{ℕ, ◌+◌, ◌*◌, ◌≤◌, ◌≡◌, List, [], ◌∷◌, map, ℤ, pos, neg_ℤ, ◌+ℤ◌, ◌*ℤ◌, length, ◌≤ℤ◌, ◌<ℤ◌}
+use Rattle.std.specs.Prelude.{ℕ, ◌*◌, ◌≤◌, ◌≡◌, List, [], ◌∷◌, map, ℤ, pos, neg_ℤ, ◌+ℤ◌, ◌*ℤ◌, length, ◌≤ℤ◌, ◌<ℤ◌}
 use Rattle.records.specs.Units.{quarter_inch, from_hundredths}
 
 -- RULES 6.25: a and b are at most n apart

@@ -9,7 +9,7 @@ use borrow.Author.Tests.{eqb-false}
 use Rattle.emath.specs.Refusals.{rect_fault}
 use Rattle.emath.proofs.Refusals.{or-none}
 use Rattle.region.specs.Refusals.{zero_rect}
-use Rattle.grid.specs.Grids.{new_grid, save}
+use Rattle.grid.specs.Grids.{new_grid}
 use Rattle.grid.specs.Refusals.{grid_answer}
 use Rattle.grid.specs.Operations.{checked_new as checked_new_grid}
 use Rattle.grid.specs.declared.Memory.{Memory}

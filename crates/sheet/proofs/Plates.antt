@@ -1,6 +1,6 @@
 -- What a pass gathers of its plate is in whole ticks, and so has no NaN; a union of rectangles in whole steps is in whole steps. Assumes
 -- nothing.
-use Prim.Native.Nat.{ℕ, ◌≤◌, ◌<◌}
+use Prim.Native.Nat.{ℕ, ◌<◌}
 use mathlib.Core.Path.{◌≡◌, refl, sym}
 use mathlib.Core.Bool.{Bool, true, false, cond}
 use native.Mathlib.Omega.{arith}

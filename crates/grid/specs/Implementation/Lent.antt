@@ -1,10 +1,9 @@
 -- A grid whose arrays are lent beside it: the memory and the grid that the counts and the arrays make.
-use Rattle.std.specs.Prelude.{List, ℕ, Float}
+use Rattle.std.specs.Prelude.{List, Float}
 use Rattle.emath.specs.Rectangles.{zero_f, max_f, width, height}
 use Rattle.emath.specs.declared.Rect.{Rect}
 use Rattle.emath.specs.declared.Vec2.{Vec2}
 use Rattle.grid.specs.Memories.{memory_of, col_width, row_height}
-use Rattle.grid.specs.declared.Memory.{Memory}
 use Rattle.grid.specs.declared.GridLayout.{GridLayout}
 use Rattle.grid.specs.declared.GridSettings.{GridSettings}
 use Rattle.grid.specs.declared.GridState.{GridState}

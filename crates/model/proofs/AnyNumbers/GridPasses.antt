@@ -4,7 +4,7 @@ use mathlib.Core.Bool.{Bool, true, false, cond}
 use mathlib.Core.List.{List, map}
 use Prim.Native.Nat.{ℕ}
 use lib.ListN.{get_or}
-use Rattle.model.proofs.WholeSteps.Model.{Step, Heading, Memory, nothing, begin, frames, grid_pass}
+use Rattle.model.proofs.WholeSteps.Model.{Step, Heading, Memory, nothing, begin, grid_pass}
 use Rattle.model.proofs.WholeSteps.Halves.{centred, centred-in-bounds}
 use Rattle.model.proofs.WholeSteps.Settled.{settled, memory-first}
 use Rattle.model.proofs.AnyNumbers.EngineAnswers.{accepted}

@@ -27,7 +27,7 @@ use Rattle.model.proofs.InFloats.Ticks.{pt, len, edge-counted}
 use Rattle.sheet.specs.Pass.{Sheet}
 use Rattle.pass_laws.specs.WholeSheets.{WholeSheet}
 use Rattle.price_clause.specs.Sheets.{NoNegativeSpacing}
-use Rattle.sheet.proofs.Passes.{GridPass, start, grid_start}
+use Rattle.sheet.proofs.Passes.{GridPass, grid_start}
 use Rattle.pass_laws.proofs.ColumnLaw.{not_negative_lem, least-cell}
 use Rattle.price_clause.proofs.OfGrids.GridStates.{engine_state_at, engine_state_of, given_of}
 use Rattle.price_clause.proofs.OfGrids.GridSteps.{grid-direction}

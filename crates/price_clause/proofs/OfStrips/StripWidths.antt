@@ -3,12 +3,12 @@
 use mathlib.Core.Path.{◌≡◌, refl, ap, ◌∙◌}
 use mathlib.Core.Bool.{Bool}
 use mathlib.Core.List.{List, [], ◌∷◌}
-use Prim.Native.Nat.{ℕ, zero, suc, ◌+◌, ◌-◌, ◌*◌, ◌≤◌, ◌<◌}
+use Prim.Native.Nat.{ℕ, zero, suc, ◌+◌, ◌-◌, ◌≤◌, ◌<◌}
 use native.Mathlib.Omega.{arith}
 use native.Mathlib.Nat.{add-mul}
 use lib.IntN.{ℤ, pos, ◌+ℤ◌, ◌-ℤ◌, ◌*ℤ◌}
 use lib.ListN.{length, length-map}
-use lib.Ieee.{Float, le}
+use lib.Ieee.{Float}
 use Rattle.emath.specs.Rectangles.{zero_f}
 use Rattle.emath.specs.Steps.{val, Edge}
 use Rattle.emath.proofs.Whole.{more, less, ◌≤ᶻ◌, sum, diff, same, order, whole}

@@ -27,7 +27,7 @@ use Rattle.sheet.specs.Pass.{Sheet, Cell, Ran, run_from, pass}
 use Rattle.pass_laws.specs.WholeSheets.{WholeSteps, WholeSheet}
 use Rattle.price_clause.specs.Sheets.{Grown, GrownSheet, NoNegativeSpacing, Strip, FrameNoLess, CellNoLess}
 use Rattle.sheet.specs.Ticks.{Ticks, ticks, in_ticks}
-use Rattle.sheet.proofs.Passes.{plain-pass, start}
+use Rattle.sheet.proofs.Passes.{plain-pass}
 use Rattle.pass_laws.specs.EachCell.{EachCell}
 use Rattle.price_clause.proofs.Plates.{Starts, Start, Open}
 use Rattle.price_clause.proofs.OfStrips.StripPlaces.{Place, placer_at, Few, Sound, le-steps, zero-steps, start_of, strip-starts}

@@ -3,7 +3,6 @@ use lib.ListN.{length, length-take}
 use Rattle.sheet_drawing.proofs.OfSheets.{list_written}
 use mathlib.Core.Path.{◌≡◌}
 use native.Mathlib.Omega.{arith}
-use borrow.Author.Rules.{rules}
 use Rattle.sheet_drawing.proofs.draw_sheet.Goals as goal
 
 pub slice_bounds-list-end : goal.slice_bounds-list-end

@@ -1,5 +1,4 @@
 use Rattle.drawing.specs.Drawings.{across}
-use borrow.Author.Rules.{rules}
 use Rattle.drawing.proofs.controls.across.Goals as goal
 
 pub returns : goal.returns

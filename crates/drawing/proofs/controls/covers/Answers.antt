@@ -1,5 +1,4 @@
 use Rattle.drawing.specs.Drawings.{covers}
-use borrow.Author.Rules.{rules}
 use Rattle.drawing.proofs.controls.covers.Goals as goal
 
 pub returns : goal.returns

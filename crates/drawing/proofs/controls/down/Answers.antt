@@ -1,5 +1,4 @@
 use Rattle.drawing.specs.Drawings.{down}
-use borrow.Author.Rules.{rules}
 use Rattle.drawing.proofs.controls.down.Goals as goal
 
 pub returns : goal.returns

@@ -1,5 +1,4 @@
 use Rattle.drawing.specs.Drawings.{flat}
-use borrow.Author.Rules.{rules}
 use Rattle.drawing.proofs.controls.flat.Goals as goal
 
 pub returns : goal.returns

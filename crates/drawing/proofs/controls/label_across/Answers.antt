@@ -1,7 +1,6 @@
 use native.Mathlib.Nat.{div-le_self, mod-le}
 use Rattle.drawing.specs.Drawings.{label_across}
 use native.Mathlib.Omega.{arith}
-use borrow.Author.Rules.{rules}
 use Rattle.drawing.proofs.controls.label_across.Goals as goal
 
 pub px-requires : goal.px-requires

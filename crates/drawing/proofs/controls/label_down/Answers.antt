@@ -2,7 +2,6 @@ use native.Mathlib.Nat.{div-le_self, mod-le}
 use Rattle.drawing.specs.Drawings.{label_down}
 use mathlib.Core.Path.{refl}
 use native.Mathlib.Omega.{arith}
-use borrow.Author.Rules.{rules}
 use Rattle.drawing.proofs.controls.label_down.Goals as goal
 
 pub times-requires : goal.times-requires

@@ -1,7 +1,6 @@
 use Rattle.drawing.specs.Drawings.{middle}
 use mathlib.Core.Path.{refl}
 use native.Mathlib.Omega.{arith}
-use borrow.Author.Rules.{rules}
 use Rattle.drawing.proofs.controls.middle.Goals as goal
 
 pub overflow_add-result : goal.overflow_add-result

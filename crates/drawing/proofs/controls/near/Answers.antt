@@ -1,5 +1,4 @@
 use Rattle.drawing.specs.Drawings.{near}
-use borrow.Author.Rules.{rules}
 use Rattle.drawing.proofs.controls.near.Goals as goal
 
 pub returns : goal.returns

@@ -1,5 +1,4 @@
 use Rattle.drawing.specs.Drawings.{same_fields}
-use borrow.Author.Rules.{rules}
 use Rattle.drawing.proofs.controls.same_fields.Goals as goal
 
 pub returns : goal.returns

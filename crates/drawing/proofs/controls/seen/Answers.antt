@@ -1,8 +1,5 @@
-use Prim.Native.Nat.{◌≤◌}
 use Rattle.drawing.proofs.Layers.{seen_end, seen-hit, seen-turn}
-use Rattle.drawing.specs.Drawings.{seen}
-use borrow.Author.Rules.{rules}
-use mathlib.Core.Path.{◌∙◌, ◌≡◌, sym}
+use mathlib.Core.Path.{◌∙◌, sym}
 use native.Mathlib.Omega.{arith}
 use Rattle.drawing.proofs.controls.seen.Goals as goal
 

@@ -1,9 +1,6 @@
 use Prim.Native.Nat.{◌≤◌}
-use Rattle.drawing.proofs.Layers.{seen_end, seen-hit, seen-turn}
 use Rattle.drawing.specs.Drawings.{seen}
-use borrow.Author.Rules.{rules}
-use mathlib.Core.Path.{◌∙◌, ◌≡◌, sym}
-use native.Mathlib.Omega.{arith}
+use mathlib.Core.Path.{◌≡◌}
 use Rattle.drawing.proofs.controls.seen.Given as goal
 
 abbrev pub invariant-loop-j : goal.invariant-loop-j

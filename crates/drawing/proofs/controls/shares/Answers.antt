@@ -1,5 +1,4 @@
 use Rattle.drawing.specs.Drawings.{shares}
-use borrow.Author.Rules.{rules}
 use Rattle.drawing.proofs.controls.shares.Goals as goal
 
 pub returns-in-Column : goal.returns-in-Column

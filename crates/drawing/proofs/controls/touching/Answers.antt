@@ -1,5 +1,4 @@
 use Rattle.drawing.specs.Drawings.{touching}
-use borrow.Author.Rules.{rules}
 use Rattle.drawing.proofs.controls.touching.Goals as goal
 
 pub returns-then-covers : goal.returns-then-covers

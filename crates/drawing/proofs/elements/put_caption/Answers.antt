@@ -1,5 +1,4 @@
 use Rattle.drawing.specs.Drawings.{captions}
-use borrow.Author.Rules.{rules}
 use Rattle.drawing.proofs.elements.put_caption.Goals as goal
 
 pub returns-then-page : goal.returns-then-page

@@ -1,5 +1,4 @@
 use Rattle.drawing.specs.Drawings.{control}
-use borrow.Author.Rules.{rules}
 use Rattle.drawing.proofs.elements.put_control.Goals as goal
 
 pub returns-then-flat : goal.returns-then-flat

@@ -1,5 +1,4 @@
 use Rattle.drawing.specs.Drawings.{label}
-use borrow.Author.Rules.{rules}
 use Rattle.drawing.proofs.elements.put_label.Goals as goal
 
 pub returns-then-covers : goal.returns-then-covers

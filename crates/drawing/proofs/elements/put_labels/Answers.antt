@@ -1,6 +1,5 @@
 use Rattle.drawing.specs.Drawings.{labels}
 use Rattle.drawing.specs.Pieces.{emits}
-use borrow.Author.Rules.{rules}
 use Rattle.drawing.proofs.elements.put_labels.Goals as goal
 
 pub returns-then-seen : goal.returns-then-seen

@@ -1,6 +1,5 @@
 use Rattle.drawing.proofs.Pieces.{emits-append}
 use Rattle.drawing.specs.Drawings.{outlines}
-use borrow.Author.Rules.{rules}
 use Rattle.drawing.proofs.elements.put_outlines.Goals as goal
 
 pub returns : goal.returns

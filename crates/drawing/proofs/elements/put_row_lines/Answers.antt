@@ -1,6 +1,5 @@
 use Rattle.drawing.specs.Drawings.{row_lines}
 use Rattle.drawing.specs.Pieces.{emits}
-use borrow.Author.Rules.{rules}
 use Rattle.drawing.proofs.elements.put_row_lines.Goals as goal
 
 pub returns-then-seen : goal.returns-then-seen

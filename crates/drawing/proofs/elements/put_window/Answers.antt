@@ -1,5 +1,4 @@
 use Rattle.drawing.specs.Drawings.{window}
-use borrow.Author.Rules.{rules}
 use Rattle.drawing.proofs.elements.put_window.Goals as goal
 
 pub returns-then-page : goal.returns-then-page

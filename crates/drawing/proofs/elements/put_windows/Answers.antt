@@ -1,6 +1,5 @@
 use Rattle.drawing.specs.Drawings.{whole_window, windows}
 use borrow.Author.Tests.{eq-eqb, ne_eqb}
-use borrow.Author.Rules.{rules}
 use Rattle.drawing.proofs.elements.put_windows.Goals as goal
 
 pub returns-then-page-eq1 : goal.returns-then-page-eq1

@@ -1,7 +1,5 @@
-use Prim.Native.Nat.{◌+◌, ◌-◌, ◌≤◌}
+use Prim.Native.Nat.{◌+◌, ◌-◌}
 use Rattle.drawing.proofs.Ruling.{line-fits, lines_end, lines-stop, lines-turn}
-use Rattle.drawing.specs.Pages.{lines_from}
-use borrow.Author.Rules.{rules}
 use mathlib.Core.Path.{◌∙◌, ◌≡◌, sym}
 use native.Mathlib.Omega.{arith}
 use Rattle.drawing.proofs.lists.count_lines.Goals as goal

@@ -1,9 +1,6 @@
 use Prim.Native.Nat.{◌+◌, ◌-◌, ◌≤◌}
-use Rattle.drawing.proofs.Ruling.{line-fits, lines_end, lines-stop, lines-turn}
 use Rattle.drawing.specs.Pages.{lines_from}
-use borrow.Author.Rules.{rules}
-use mathlib.Core.Path.{◌∙◌, ◌≡◌, sym}
-use native.Mathlib.Omega.{arith}
+use mathlib.Core.Path.{◌≡◌}
 use Rattle.drawing.proofs.lists.count_lines.Given as goal
 
 abbrev pub invariant-loop-n : goal.invariant-loop-n

@@ -1,6 +1,5 @@
 use Rattle.drawing.proofs.Ruling.{line-there, no_line}
 use native.Mathlib.Omega.{arith}
-use borrow.Author.Rules.{rules}
 use Rattle.drawing.proofs.lists.is_line.Goals as goal
 
 pub returns-then-n-size : goal.returns-then-n-size

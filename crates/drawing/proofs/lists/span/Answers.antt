@@ -1,6 +1,5 @@
 use Rattle.drawing.specs.Pages.{span}
 use native.Mathlib.Omega.{arith}
-use borrow.Author.Rules.{rules}
 use Rattle.drawing.proofs.lists.span.Goals as goal
 
 pub returns : goal.returns

@@ -1,6 +1,5 @@
 use mathlib.Core.Path.{refl}
 use Rattle.drawing.specs.Pictures.{hundredths}
-use borrow.Author.Rules.{rules}
 use Rattle.drawing.proofs.millimetres.hundredths.Goals as goal
 
 pub returns : goal.returns

@@ -1,6 +1,5 @@
 use Rattle.drawing.specs.Pieces.{emits}
 use Rattle.drawing.specs.Pictures.{in_millimetres}
-use borrow.Author.Rules.{rules}
 use Rattle.drawing.proofs.millimetres.put_in_millimetres.Goals as goal
 
 pub returns-then-metric : goal.returns-then-metric

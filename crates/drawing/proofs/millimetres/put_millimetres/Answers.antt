@@ -1,5 +1,4 @@
 use Rattle.drawing.specs.Pictures.{millimetres}
-use borrow.Author.Rules.{rules}
 use Rattle.drawing.proofs.millimetres.put_millimetres.Goals as goal
 
 pub returns : goal.returns

@@ -1,6 +1,5 @@
 use Rattle.drawing.specs.Pictures.{size_in_millimetres}
 use Rattle.drawing.proofs.Pieces.{emits-append}
-use borrow.Author.Rules.{rules}
 use Rattle.drawing.proofs.millimetres.put_size.Goals as goal
 
 pub put_millimetres-wide-requires : goal.put_millimetres-wide-requires

@@ -1,8 +1,6 @@
 use Prim.Native.Nat.{◌*◌, ◌<◌, ◌≤◌}
 use Rattle.drawing.proofs.Ruling.{bands-end, bands-hit, bands-turn, square-small}
-use Rattle.drawing.specs.Pages.{bands_from}
-use borrow.Author.Rules.{rules}
-use mathlib.Core.Path.{◌∙◌, ◌≡◌, sym}
+use mathlib.Core.Path.{◌∙◌, sym}
 use native.Mathlib.Omega.{arith}
 use Rattle.drawing.proofs.pages.bands_from.Goals as goal
 

@@ -1,8 +1,5 @@
-use Prim.Native.Nat.{◌≤◌}
 use Rattle.drawing.proofs.Ruling.{bar-end, bar-hit, bar-turn}
-use Rattle.drawing.specs.Pages.{bar_from}
-use borrow.Author.Rules.{rules}
-use mathlib.Core.Path.{◌∙◌, ◌≡◌, sym}
+use mathlib.Core.Path.{◌∙◌, sym}
 use native.Mathlib.Omega.{arith}
 use Rattle.drawing.proofs.pages.bar_of.Goals as goal
 

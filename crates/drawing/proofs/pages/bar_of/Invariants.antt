@@ -1,9 +1,6 @@
 use Prim.Native.Nat.{◌≤◌}
-use Rattle.drawing.proofs.Ruling.{bar-end, bar-hit, bar-turn}
 use Rattle.drawing.specs.Pages.{bar_from}
-use borrow.Author.Rules.{rules}
-use mathlib.Core.Path.{◌∙◌, ◌≡◌, sym}
-use native.Mathlib.Omega.{arith}
+use mathlib.Core.Path.{◌≡◌}
 use Rattle.drawing.proofs.pages.bar_of.Given as goal
 
 abbrev pub invariant-loop-left : goal.invariant-loop-left

@@ -1,6 +1,5 @@
 use Rattle.drawing.specs.Pages.{bottom}
 use native.Mathlib.Omega.{arith}
-use borrow.Author.Rules.{rules}
 use Rattle.drawing.proofs.pages.bottom.Goals as goal
 
 pub returns-then-page : goal.returns-then-page

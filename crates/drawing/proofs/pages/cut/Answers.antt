@@ -1,7 +1,6 @@
 use native.Mathlib.Nat.{div-le_self}
 use Rattle.drawing.specs.Pages.{cut}
 use native.Mathlib.Omega.{arith}
-use borrow.Author.Rules.{rules}
 use Rattle.drawing.proofs.pages.cut.Goals as goal
 
 pub overflow_add-step : goal.overflow_add-step

@@ -1,6 +1,5 @@
 use Rattle.drawing.specs.Pages.{columns_of, page_for, rows_of}
 use mathlib.Core.Path.{refl}
-use borrow.Author.Rules.{rules}
 use Rattle.drawing.proofs.pages.page_for.Goals as goal
 
 pub returns : goal.returns

@@ -1,5 +1,4 @@
 use Rattle.drawing.specs.Pages.{page_height}
-use borrow.Author.Rules.{rules}
 use Rattle.drawing.proofs.pages.page_height.Goals as goal
 
 pub returns : goal.returns

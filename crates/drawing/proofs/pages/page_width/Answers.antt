@@ -1,5 +1,4 @@
 use Rattle.drawing.specs.Pages.{page_width}
-use borrow.Author.Rules.{rules}
 use Rattle.drawing.proofs.pages.page_width.Goals as goal
 
 pub returns-then-page : goal.returns-then-page

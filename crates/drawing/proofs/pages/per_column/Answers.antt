@@ -1,7 +1,6 @@
 use Rattle.drawing.specs.Pages.{per_column}
 use mathlib.Core.Path.{refl}
 use native.Mathlib.Omega.{arith}
-use borrow.Author.Rules.{rules}
 use Rattle.drawing.proofs.pages.per_column.Goals as goal
 
 pub returns : goal.returns

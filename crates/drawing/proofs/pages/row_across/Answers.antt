@@ -1,7 +1,6 @@
 use native.Mathlib.Nat.{div-le_self}
 use Rattle.drawing.specs.Pages.{row_across}
 use native.Mathlib.Omega.{arith}
-use borrow.Author.Rules.{rules}
 use Rattle.drawing.proofs.pages.row_across.Goals as goal
 
 pub overflow_mul-result : goal.overflow_mul-result

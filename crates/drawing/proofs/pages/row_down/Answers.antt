@@ -1,7 +1,6 @@
 use native.Mathlib.Nat.{mod-lt}
 use Rattle.drawing.specs.Pages.{row_down}
 use native.Mathlib.Omega.{arith}
-use borrow.Author.Rules.{rules}
 use Rattle.drawing.proofs.pages.row_down.Goals as goal
 
 pub overflow_mul-result : goal.overflow_mul-result

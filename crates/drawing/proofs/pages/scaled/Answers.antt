@@ -3,7 +3,6 @@ use Rattle.drawing.proofs.Ruling.{quotient-small}
 use Rattle.drawing.specs.Pages.{scaled}
 use mathlib.Core.Path.{refl, sym}
 use native.Mathlib.Omega.{arith}
-use borrow.Author.Rules.{rules}
 use Rattle.drawing.proofs.pages.scaled.Goals as goal
 
 pub returns-then-unit-eq0 : goal.returns-then-unit-eq0

@@ -3,7 +3,6 @@ use Prim.Native.Nat.{◌*◌}
 use Rattle.drawing.specs.Pages.{size_of, thickness}
 use mathlib.Core.Path.{refl}
 use native.Mathlib.Omega.{arith}
-use borrow.Author.Rules.{rules}
 use Rattle.drawing.proofs.pages.thickness.Goals as goal
 
 pub returns : goal.returns

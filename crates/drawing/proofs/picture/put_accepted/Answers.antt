@@ -1,6 +1,5 @@
 use Rattle.drawing.proofs.Pieces.{emits-append}
 use Rattle.drawing.specs.Pictures.{accepted}
-use borrow.Author.Rules.{rules}
 use Rattle.drawing.proofs.picture.put_accepted.Goals as goal
 
 pub returns : goal.returns

@@ -1,5 +1,4 @@
 use Rattle.drawing.specs.Pictures.{drawn_from}
-use borrow.Author.Rules.{rules}
 use Rattle.drawing.proofs.picture.put_drawn.Goals as goal
 
 pub returns-then-is_line : goal.returns-then-is_line

@@ -1,6 +1,5 @@
 use Rattle.drawing.specs.Pictures.{reason}
 use borrow.Author.Tests.{ne_eqb}
-use borrow.Author.Rules.{rules}
 use Rattle.drawing.proofs.picture.put_reason.Goals as goal
 
 pub returns-in-1 : goal.returns-in-1

@@ -1,6 +1,5 @@
 use Rattle.drawing.proofs.Pieces.{emits-append}
 use Rattle.drawing.specs.Pictures.{refusal}
-use borrow.Author.Rules.{rules}
 use Rattle.drawing.proofs.picture.put_refusal.Goals as goal
 
 pub returns : goal.returns

@@ -1,5 +1,4 @@
 use Rattle.drawing.specs.Pictures.{refusal_number}
-use borrow.Author.Rules.{rules}
 use Rattle.drawing.proofs.picture.refusal_number.Goals as goal
 
 pub returns-then-is_line : goal.returns-then-is_line

@@ -1,6 +1,5 @@
 use Rattle.drawing.specs.Drawings.{column_row}
 use native.Mathlib.Omega.{arith}
-use borrow.Author.Rules.{rules}
 use Rattle.drawing.proofs.rows.put_column_row.Goals as goal
 
 pub row_across-requires : goal.row_across-requires

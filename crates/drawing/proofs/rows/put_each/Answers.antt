@@ -1,10 +1,5 @@
-use Prim.Native.Nat.{◌+◌}
 use Rattle.drawing.proofs.Layers.{each-end, each_turn}
-use Rattle.drawing.specs.Drawings.{each}
-use Rattle.drawing.specs.Pieces.{emits}
-use borrow.Author.Rules.{rules}
-use lib.ListN.{length}
-use mathlib.Core.Path.{◌∙◌, ◌≡◌}
+use mathlib.Core.Path.{◌∙◌}
 use native.Mathlib.Omega.{arith}
 use Rattle.drawing.proofs.rows.put_each.Goals as goal
 

@@ -1,5 +1,4 @@
 use Rattle.drawing.specs.Drawings.{one}
-use borrow.Author.Rules.{rules}
 use Rattle.drawing.proofs.rows.put_one.Goals as goal
 
 pub returns-in-ColumnLines : goal.returns-in-ColumnLines

@@ -1,5 +1,4 @@
 use Rattle.drawing.specs.Drawings.{plate_row}
-use borrow.Author.Rules.{rules}
 use Rattle.drawing.proofs.rows.put_plate_row.Goals as goal
 
 pub returns : goal.returns

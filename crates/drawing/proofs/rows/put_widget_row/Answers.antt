@@ -1,5 +1,4 @@
 use Rattle.drawing.specs.Drawings.{widget_row}
-use borrow.Author.Rules.{rules}
 use Rattle.drawing.proofs.rows.put_widget_row.Goals as goal
 
 pub returns : goal.returns

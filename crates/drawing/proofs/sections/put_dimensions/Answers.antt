@@ -1,7 +1,6 @@
 use Rattle.drawing.proofs.Pieces.{emits-append}
 use Rattle.drawing.specs.Pictures.{dimensions}
 use borrow.Author.Tests.{eq-eqb, ne_eqb}
-use borrow.Author.Rules.{rules}
 use Rattle.drawing.proofs.sections.put_dimensions.Goals as goal
 
 pub returns-then-page-eq1 : goal.returns-then-page-eq1

@@ -1,6 +1,5 @@
 use Rattle.drawing.proofs.Pieces.{emits-append}
 use Rattle.drawing.specs.Pictures.{key}
-use borrow.Author.Rules.{rules}
 use Rattle.drawing.proofs.sections.put_key.Goals as goal
 
 pub returns : goal.returns

@@ -1,6 +1,5 @@
 use Rattle.drawing.proofs.Pieces.{emits-append}
 use Rattle.drawing.specs.Pictures.{picture}
-use borrow.Author.Rules.{rules}
 use Rattle.drawing.proofs.sections.put_picture.Goals as goal
 
 pub returns : goal.returns

@@ -1,6 +1,5 @@
 use Rattle.drawing.specs.Pictures.{points}
 use borrow.Author.Tests.{eq-eqb, ne_eqb}
-use borrow.Author.Rules.{rules}
 use Rattle.drawing.proofs.sections.put_points.Goals as goal
 
 pub returns-then-n-eq0 : goal.returns-then-n-eq0

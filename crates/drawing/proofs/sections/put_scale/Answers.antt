@@ -1,5 +1,4 @@
 use Rattle.drawing.specs.Pictures.{scale}
-use borrow.Author.Rules.{rules}
 use Rattle.drawing.proofs.sections.put_scale.Goals as goal
 
 pub returns : goal.returns

@@ -1,6 +1,5 @@
 use Rattle.drawing.proofs.Pieces.{emits-append}
 use Rattle.drawing.specs.Pictures.{shapes}
-use borrow.Author.Rules.{rules}
 use Rattle.drawing.proofs.sections.put_shapes.Goals as goal
 
 pub returns : goal.returns

@@ -1,5 +1,4 @@
 use Rattle.drawing.specs.Pictures.{style}
-use borrow.Author.Rules.{rules}
 use Rattle.drawing.proofs.sections.put_style.Goals as goal
 
 pub returns : goal.returns

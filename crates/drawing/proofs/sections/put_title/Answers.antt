@@ -2,7 +2,6 @@ use Rattle.drawing.proofs.Pieces.{emits-append}
 use Rattle.drawing.specs.Pictures.{title}
 use native.Mathlib.Omega.{arith}
 use mathlib.Core.Path.{◌∙◌}
-use borrow.Author.Rules.{rules}
 use Rattle.drawing.proofs.sections.put_title.Goals as goal
 
 pub overflow_mul-page : goal.overflow_mul-page

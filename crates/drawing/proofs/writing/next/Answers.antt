@@ -1,6 +1,5 @@
 use Rattle.drawing.specs.Pieces.{next}
 use borrow.Author.Tests.{eq-eqb, ne_eqb}
-use borrow.Author.Rules.{rules}
 use Rattle.drawing.proofs.writing.next.Goals as goal
 
 pub returns-then-mark-eq0 : goal.returns-then-mark-eq0

@@ -5,7 +5,6 @@ use mir.Facts.{to_z_pos}
 use mir.Syntax.{w32}
 use mir.Val.{to_z}
 use native.Mathlib.Omega.{arith}
-use borrow.Author.Rules.{rules}
 use Rattle.drawing.proofs.writing.numeral.Goals as goal
 
 pub returns-then-n-lt99999999 : goal.returns-then-n-lt99999999

@@ -1,5 +1,4 @@
 use Rattle.drawing.proofs.Pieces.{byte_put, no_byte}
-use borrow.Author.Rules.{rules}
 use Rattle.drawing.proofs.writing.put_byte.Goals as goal
 
 pub returns-then-at-out : goal.returns-then-at-out

@@ -1,9 +1,7 @@
 use Prim.Native.Nat.{◌-◌}
-use Rattle.drawing.proofs.Pieces.{part_end, part-turn}
 use Rattle.drawing.specs.Pieces.{emits, filled, filled_from}
-use borrow.Author.Rules.{rules}
 use lib.ListN.{drop, length}
-use mathlib.Core.Path.{◌∙◌, ◌≡◌}
+use mathlib.Core.Path.{◌≡◌}
 use Rattle.drawing.proofs.writing.put_filled.Given as goal
 
 abbrev pub invariant-loop-i : goal.invariant-loop-i

@@ -1,6 +1,5 @@
 use Rattle.drawing.specs.Pieces.{emits, ink}
 use borrow.Author.Tests.{eq-eqb, ne_eqb}
-use borrow.Author.Rules.{rules}
 use Rattle.drawing.proofs.writing.put_ink.Goals as goal
 
 pub returns-then-b-eq32 : goal.returns-then-b-eq32

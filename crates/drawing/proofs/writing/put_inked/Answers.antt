@@ -1,9 +1,5 @@
-use Prim.Native.Nat.{◌-◌}
 use Rattle.drawing.proofs.Pieces.{ink-end, ink-turn}
-use Rattle.drawing.specs.Pieces.{emits, inked}
-use borrow.Author.Rules.{rules}
-use lib.ListN.{drop, length}
-use mathlib.Core.Path.{◌∙◌, ◌≡◌}
+use mathlib.Core.Path.{◌∙◌}
 use Rattle.drawing.proofs.writing.put_inked.Goals as goal
 
 pub loop-i-preserved : goal.loop-i-preserved

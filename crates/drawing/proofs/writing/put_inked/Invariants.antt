@@ -1,9 +1,7 @@
 use Prim.Native.Nat.{◌-◌}
-use Rattle.drawing.proofs.Pieces.{ink-end, ink-turn}
 use Rattle.drawing.specs.Pieces.{emits, inked}
-use borrow.Author.Rules.{rules}
 use lib.ListN.{drop, length}
-use mathlib.Core.Path.{◌∙◌, ◌≡◌}
+use mathlib.Core.Path.{◌≡◌}
 use Rattle.drawing.proofs.writing.put_inked.Given as goal
 
 abbrev pub invariant-loop-i : goal.invariant-loop-i

@@ -1,6 +1,5 @@
 use Rattle.drawing.specs.Pieces.{emits, unmarked}
 use borrow.Author.Tests.{eq-eqb, ne_eqb}
-use borrow.Author.Rules.{rules}
 use Rattle.drawing.proofs.writing.put_unmarked.Goals as goal
 
 pub returns-then-marked-eq0 : goal.returns-then-marked-eq0

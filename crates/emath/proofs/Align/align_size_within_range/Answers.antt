@@ -1,4 +1,3 @@
-use Rattle.std.proofs.Common.{rules}
 use Rattle.emath.specs.Rectangles.{align_on, aligned_to}
 use Rattle.emath.proofs.Align.align_size_within_range.Goals as goal
 

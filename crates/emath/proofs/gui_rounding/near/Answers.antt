@@ -1,4 +1,4 @@
-use Rattle.std.proofs.Common.{◌+◌, ◌/◌, ◌^◌, T, arith, le→leb}
+use Rattle.std.proofs.Common.{◌+◌, ◌/◌, ◌^◌, arith, le→leb}
 use lib.Ieee.{in_float}
 use Rattle.emath.proofs.NearestWhole.{near-range, near-count}
 use Rattle.emath.proofs.Tests.{T_of}

@@ -1,4 +1,4 @@
-use Rattle.std.proofs.Common.{sym, rules}
+use Rattle.std.proofs.Common.{sym}
 use lib.Ieee.{of_bits, neg}
 use Rattle.emath.proofs.NearestWhole.{opposite, below-zero, at_zero, from_low, from-high}
 use Rattle.emath.proofs.Tests.{T_of}

@@ -1,10 +1,8 @@
 use mathlib.Core.Path.{◌≡◌, ap, ◌∙◌}
-use Prim.Native.Nat.{◌-◌, ◌≤◌}
+use Prim.Native.Nat.{◌-◌}
 use native.Mathlib.Omega.{arith}
 use lib.ListN.{length}
-use Rattle.grid.specs.Entries.{cleared}
 use Rattle.grid.proofs.Turns.{clear-turn, clear_none, length-cleared}
-use borrow.Author.Rules.{rules}
 use Rattle.grid.proofs.entries.clear.Goals as goal
 
 pub loop-i-init : goal.loop-i-init

@@ -1,10 +1,6 @@
-use mathlib.Core.Path.{◌≡◌, ap, ◌∙◌}
+use mathlib.Core.Path.{◌≡◌}
 use Prim.Native.Nat.{◌-◌, ◌≤◌}
-use native.Mathlib.Omega.{arith}
-use lib.ListN.{length}
 use Rattle.grid.specs.Entries.{cleared}
-use Rattle.grid.proofs.Turns.{clear-turn, clear_none, length-cleared}
-use borrow.Author.Rules.{rules}
 use Rattle.grid.proofs.entries.clear.Given as goal
 
 abbrev pub invariant-loop-i : goal.invariant-loop-i

@@ -1,10 +1,7 @@
 use mathlib.Core.Path.{◌≡◌}
 use Prim.Native.Nat.{◌≤◌}
-use native.Mathlib.Omega.{arith}
 use lib.ListN.{take, drop}
 use Rattle.grid.specs.Entries.{entries_fault}
-use Rattle.grid.proofs.Turns.{fault-turn, fault-start}
-use borrow.Author.Rules.{rules}
 use Rattle.grid.proofs.entries.entries_fault.Given as goal
 
 abbrev pub invariant-loop-i : goal.invariant-loop-i

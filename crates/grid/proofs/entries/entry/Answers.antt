@@ -7,7 +7,6 @@ use lib.ListN.{length, take, get_or, length-take}
 use lib.Seq.{get_or-take}
 use lib.Ieee.{Float, nan}
 use Rattle.grid.specs.Entries.{entry}
-use borrow.Author.Rules.{rules}
 use Rattle.grid.proofs.entries.entry.Goals as goal
 
 there : (xs : List Float) (n i : ℕ) (other : Float) → i < n → i < length xs → get_or xs i nan ≡ entry (take n xs) i other

@@ -1,5 +1,4 @@
 use Rattle.grid.specs.Entries.{raised}
-use borrow.Author.Rules.{rules}
 use Rattle.grid.proofs.entries.raise.Goals as goal
 
 pub returns : goal.returns

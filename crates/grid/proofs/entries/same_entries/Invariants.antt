@@ -1,10 +1,7 @@
 use mathlib.Core.Path.{◌≡◌}
 use Prim.Native.Nat.{◌≤◌}
-use native.Mathlib.Omega.{arith}
 use lib.ListN.{take, drop}
 use Rattle.grid.specs.Entries.{same_entries}
-use Rattle.grid.proofs.Turns.{same_turn, same_start}
-use borrow.Author.Rules.{rules}
 use Rattle.grid.proofs.entries.same_entries.Given as goal
 
 abbrev pub invariant-loop-i : goal.invariant-loop-i

@@ -1,10 +1,7 @@
-use mathlib.Core.Path.{◌≡◌, refl}
+use mathlib.Core.Path.{◌≡◌}
 use Prim.Native.Nat.{◌-◌, ◌≤◌}
-use native.Mathlib.Omega.{arith}
 use lib.ListN.{take, drop}
 use Rattle.grid.specs.Entries.{total_from, total}
-use Rattle.grid.proofs.Turns.{total-turn, total-end}
-use borrow.Author.Rules.{rules}
 use Rattle.grid.proofs.entries.total_of.Given as goal
 
 abbrev pub invariant-loop-i : goal.invariant-loop-i

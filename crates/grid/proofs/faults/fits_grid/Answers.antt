@@ -1,4 +1,3 @@
-use borrow.Author.Rules.{rules}
 use Rattle.grid.specs.Refusals.{fits_grid}
 use Rattle.grid.proofs.faults.fits_grid.Goals as goal
 

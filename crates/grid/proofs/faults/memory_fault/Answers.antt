@@ -1,4 +1,3 @@
-use borrow.Author.Rules.{rules}
 use Rattle.grid.specs.Refusals.{memory_fault}
 use Rattle.emath.specs.Refusals.{least}
 use Rattle.grid.proofs.faults.memory_fault.Goals as goal

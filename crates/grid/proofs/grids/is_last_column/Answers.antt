@@ -5,7 +5,6 @@ use native.Mathlib.Omega.{arith}
 use lib.Dec.{T, eqb, eqb→eq}
 use lib.Ieee.Fits.{eq→eqb}
 use Rattle.emath.proofs.Tests.{bools}
-use borrow.Author.Rules.{rules}
 use Rattle.grid.proofs.grids.is_last_column.Goals as goal
 
 none : (col n : ℕ) → n ≡ 0 → false ≡ eqb (col + 1) n

@@ -1,5 +1,4 @@
 use mathlib.Core.Path.{◌∙◌}
-use borrow.Author.Rules.{rules}
 use Rattle.grid.proofs.grids.next_cell.Goals as goal
 
 pub returns : goal.returns

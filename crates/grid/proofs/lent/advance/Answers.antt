@@ -1,6 +1,5 @@
 use borrow.Author.Tests.{le-ltb, lt-ltb}
 use Rattle.grid.specs.Grids.{advance}
-use borrow.Author.Rules.{rules}
 use Rattle.grid.proofs.lent.advance.Goals as goal
 
 pub returns-else-state-lt-MAX_ROWS : goal.returns-else-state-lt-MAX_ROWS

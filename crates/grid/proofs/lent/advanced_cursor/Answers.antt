@@ -1,7 +1,6 @@
 use borrow.Author.Tests.{le-ltb, lt-ltb}
 use Rattle.grid.specs.Memories.{col_width}
 use Rattle.grid.specs.Grids.{prev_col_width, advanced, advance}
-use borrow.Author.Rules.{rules}
 use Rattle.grid.proofs.lent.advanced_cursor.Goals as goal
 
 pub returns-then-state-lt-MAX_ROWS : goal.returns-then-state-lt-MAX_ROWS

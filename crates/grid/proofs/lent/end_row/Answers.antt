@@ -1,6 +1,5 @@
 use borrow.Author.Tests.{le-ltb, lt-ltb}
 use Rattle.grid.specs.Grids.{row_ended, end_row}
-use borrow.Author.Rules.{rules}
 use Rattle.grid.proofs.lent.end_row.Goals as goal
 
 pub returns-then-state-lt-MAX_ROWS : goal.returns-then-state-lt-MAX_ROWS

@@ -1,7 +1,6 @@
 use borrow.Author.Tests.{le-ltb, lt-ltb}
 use Rattle.grid.specs.Memories.{row_height}
 use Rattle.grid.specs.Grids.{row_ended, end_row}
-use borrow.Author.Rules.{rules}
 use Rattle.grid.proofs.lent.ended_cursor.Goals as goal
 
 pub returns-then-state-lt-MAX_ROWS : goal.returns-then-state-lt-MAX_ROWS

@@ -1,6 +1,5 @@
 use Rattle.grid.specs.Memories.{col_width, row_height}
 use Rattle.grid.specs.Grids.{next_cell, next_width, prev_row_height}
-use borrow.Author.Rules.{rules}
 use Rattle.grid.proofs.lent.next_cell.Goals as goal
 
 pub returns : goal.returns

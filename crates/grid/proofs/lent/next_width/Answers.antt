@@ -1,6 +1,5 @@
 use Rattle.grid.specs.Memories.{col_width}
 use Rattle.grid.specs.Grids.{next_width}
-use borrow.Author.Rules.{rules}
 use Rattle.grid.proofs.lent.next_width.Goals as goal
 
 pub returns-then-grid : goal.returns-then-grid

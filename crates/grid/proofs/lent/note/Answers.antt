@@ -1,7 +1,6 @@
 use Rattle.emath.proofs.Tests.{is_lt}
 use Rattle.grid.specs.Memories.{set_min_col_width, set_min_row_height}
 use Rattle.grid.specs.Grids.{advance, advanced, noted}
-use borrow.Author.Rules.{rules}
 use Rattle.grid.proofs.lent.note.Goals as goal
 
 pub returns : goal.returns

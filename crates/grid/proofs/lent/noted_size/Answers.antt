@@ -1,6 +1,5 @@
 use Rattle.grid.specs.Memories.{col_width, row_height}
 use Rattle.grid.specs.Implementation.Lent.{noted_size}
-use borrow.Author.Rules.{rules}
 use Rattle.grid.proofs.lent.noted_size.Goals as goal
 
 pub returns : goal.returns

@@ -1,4 +1,3 @@
-use borrow.Author.Rules.{rules}
 use Rattle.grid.specs.Memories.{col_width}
 use Rattle.grid.proofs.memories.col_width.Goals as goal
 

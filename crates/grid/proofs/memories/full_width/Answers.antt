@@ -1,9 +1,7 @@
 use mathlib.Core.Path.{◌≡◌}
-use Prim.Native.Nat.{◌-◌}
 use native.Mathlib.Omega.{arith}
-use lib.ListN.{length, take}
-use Rattle.grid.specs.Entries.{total}
-use Rattle.grid.specs.Memories.{capped, full_width}
+use lib.ListN.{length}
+use Rattle.grid.specs.Memories.{full_width}
 use Rattle.grid.proofs.Counts.{capped_le, take-capped, length-capped, float-count}
 use borrow.Author.Rules.{rules}
 use Rattle.grid.proofs.memories.full_width.Goals as goal

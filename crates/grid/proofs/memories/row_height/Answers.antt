@@ -1,4 +1,3 @@
-use borrow.Author.Rules.{rules}
 use Rattle.grid.specs.Memories.{row_height}
 use Rattle.grid.proofs.memories.row_height.Goals as goal
 

@@ -1,4 +1,3 @@
-use borrow.Author.Rules.{rules}
 use Rattle.grid.specs.Memories.{same_memory}
 use Rattle.grid.proofs.memories.same_memory.Goals as goal
 

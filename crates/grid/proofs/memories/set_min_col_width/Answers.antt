@@ -1,5 +1,4 @@
 use borrow.Author.Tests.{le-ltb, lt-ltb}
-use borrow.Author.Rules.{rules}
 use Rattle.grid.specs.Memories.{set_min_col_width}
 use Rattle.grid.proofs.memories.set_min_col_width.Goals as goal
 

@@ -1,5 +1,4 @@
 use borrow.Author.Tests.{le-ltb, lt-ltb}
-use borrow.Author.Rules.{rules}
 use Rattle.grid.specs.Memories.{set_min_row_height}
 use Rattle.grid.proofs.memories.set_min_row_height.Goals as goal
 

@@ -1,4 +1,3 @@
-use borrow.Author.Rules.{rules}
 use Rattle.layout.specs.Layouts.{placement}
 use Rattle.layout.proofs.Layout.horizontal_placement.Goals as goal
 

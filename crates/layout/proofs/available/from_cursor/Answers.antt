@@ -1,4 +1,3 @@
-use borrow.Author.Rules.{rules}
 use Rattle.layout.specs.Rules.{from_cursor}
 use Rattle.layout.proofs.available.from_cursor.Goals as goal
 

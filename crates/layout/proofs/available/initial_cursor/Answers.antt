@@ -1,4 +1,3 @@
-use borrow.Author.Rules.{rules}
 use Rattle.layout.specs.Rules.{initial_cursor}
 use Rattle.layout.proofs.available.initial_cursor.Goals as goal
 

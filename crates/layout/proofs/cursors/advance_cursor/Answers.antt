@@ -1,4 +1,3 @@
-use borrow.Author.Rules.{rules}
 use Rattle.layout.specs.Rules.{advance_cursor}
 use Rattle.layout.proofs.cursors.advance_cursor.Goals as goal
 

@@ -1,4 +1,3 @@
-use borrow.Author.Rules.{rules}
 use Rattle.layout.specs.Rules.{next_row}
 use Rattle.layout.proofs.cursors.next_row.Goals as goal
 

@@ -1,4 +1,3 @@
-use borrow.Author.Rules.{rules}
 use Rattle.layout.specs.Rules.{past_widget}
 use Rattle.layout.proofs.cursors.past_widget.Goals as goal
 

@@ -1,4 +1,3 @@
-use borrow.Author.Rules.{rules}
 use Rattle.layout.specs.Rules.{row_started}
 use Rattle.layout.proofs.cursors.row_started.Goals as goal
 

@@ -1,4 +1,3 @@
-use borrow.Author.Rules.{rules}
 use Rattle.layout.specs.Rules.{frame_align2}
 use Rattle.layout.proofs.frames.frame_align2.Goals as goal
 

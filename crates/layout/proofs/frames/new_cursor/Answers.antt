@@ -1,4 +1,3 @@
-use borrow.Author.Rules.{rules}
 use Rattle.layout.specs.Rules.{new_cursor}
 use Rattle.layout.proofs.frames.new_cursor.Goals as goal
 

@@ -1,4 +1,3 @@
-use borrow.Author.Rules.{rules}
 use Rattle.layout.specs.Rules.{overflows}
 use Rattle.layout.proofs.frames.overflows_main.Goals as goal
 

@@ -1,4 +1,3 @@
-use borrow.Author.Rules.{rules}
 use Rattle.layout.specs.Layouts.{is_center}
 use Rattle.layout.proofs.inspectors.is_center.Goals as goal
 

@@ -1,4 +1,3 @@
-use borrow.Author.Rules.{rules}
 use Rattle.layout.specs.Layouts.{is_max}
 use Rattle.layout.proofs.inspectors.is_max.Goals as goal
 

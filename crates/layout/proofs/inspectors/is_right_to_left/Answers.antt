@@ -1,4 +1,3 @@
-use borrow.Author.Rules.{rules}
 use Rattle.layout.specs.Layouts.{is_right_to_left}
 use Rattle.layout.proofs.inspectors.is_right_to_left.Goals as goal
 

@@ -1,7 +1,6 @@
 use lib.ListN.{get_or-eq_default}
 use lib.IntN.{pos}
 use mathlib.Core.Path.{sym}
-use borrow.Author.Rules.{rules}
 use Rattle.listing.proofs.lines.place.Goals as goal
 
 pub returns : goal.returns

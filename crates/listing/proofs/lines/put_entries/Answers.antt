@@ -1,9 +1,5 @@
 use mathlib.Core.Path.{◌∙◌}
 use Rattle.listing.proofs.Puts.{entries-turn, entries-end, whole-at}
-use Rattle.listing.specs.Implementation.ListWriter.{put_entries}
-use lib.ListN.{length, drop}
-use mathlib.Core.Path.{◌≡◌}
-use Prim.Native.Nat.{◌-◌, ◌≤◌}
 use borrow.Author.Rules.{rules}
 use Rattle.listing.proofs.lines.put_entries.Goals as goal
 

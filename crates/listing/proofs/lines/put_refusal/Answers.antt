@@ -4,7 +4,6 @@ use mir.Syntax.{w32}
 use mathlib.Core.Path.{◌≡◌}
 use native.Mathlib.Omega.{arith}
 use lib.IntN.{pos}
-use borrow.Author.Rules.{rules}
 use Rattle.listing.proofs.lines.put_refusal.Goals as goal
 
 pub returns : goal.returns

@@ -1,4 +1,3 @@
-use borrow.Author.Rules.{rules}
 use Rattle.listing.proofs.lines.put_widgets.Goals as goal
 
 pub returns : goal.returns

@@ -1,11 +1,7 @@
-use native.Mathlib.Omega.{arith}
-use mathlib.Core.Path.{◌∙◌}
-use Rattle.listing.proofs.Puts.{widgets-turn, widgets-end, widgets-full}
 use Rattle.listing.specs.Implementation.ListWriter.{put_widgets}
 use lib.ListN.{length, drop}
 use mathlib.Core.Path.{◌≡◌}
 use Prim.Native.Nat.{◌+◌, ◌≤◌}
-use borrow.Author.Rules.{rules}
 use Rattle.listing.proofs.lines.put_widgets_from.Given as goal
 
 abbrev pub invariant-loop-left : goal.invariant-loop-left

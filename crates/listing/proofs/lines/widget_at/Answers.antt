@@ -1,6 +1,5 @@
 use Rattle.listing.proofs.Puts.{marked, not-marked, none-marked}
 use native.Mathlib.Omega.{arith}
-use borrow.Author.Rules.{rules}
 use Rattle.listing.proofs.lines.widget_at.Goals as goal
 
 pub returns-then-text-at-eq87 : goal.returns-then-text-at-eq87

@@ -1,5 +1,4 @@
 use Rattle.listing.specs.Implementation.ListWriter.{is_accepted}
-use borrow.Author.Rules.{rules}
 use Rattle.listing.proofs.printing.is_accepted.Goals as goal
 
 pub returns-in-Accepted : goal.returns-in-Accepted

@@ -2,7 +2,6 @@ use mathlib.Core.Path.{ap, ◌∙◌}
 use Rattle.sheet.specs.Ticks.{in_ticks}
 use Rattle.sheet.specs.Slices.{edges}
 use Rattle.listing.specs.Implementation.ListWriter.{Put, put_line, put_memory, put_accepted}
-use borrow.Author.Rules.{rules}
 use Rattle.listing.proofs.printing.put_accepted.Goals as goal
 
 pub returns : goal.returns

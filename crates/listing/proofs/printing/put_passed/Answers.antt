@@ -1,7 +1,6 @@
 use native.Mathlib.Omega.{arith}
 use Rattle.sheet.specs.Slices.{laid_number}
 use Rattle.listing.specs.Implementation.ListWriter.{printable, put_passed}
-use borrow.Author.Rules.{rules}
 use Rattle.listing.proofs.printing.put_passed.Goals as goal
 
 pub put_accepted-requires : goal.put_accepted-requires

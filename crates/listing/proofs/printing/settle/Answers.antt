@@ -1,6 +1,5 @@
 use Rattle.listing.proofs.Settled.{again, known-again, once}
 use mathlib.Core.Path.{refl}
-use borrow.Author.Rules.{rules}
 use Rattle.listing.proofs.printing.settle.Goals as goal
 
 pub pass_cached-requires : goal.pass_cached-requires

@@ -1,7 +1,6 @@
 use Rattle.emath.specs.Refusals.{least}
 use Rattle.placer.specs.Rules.{advance_cursor}
 use Rattle.placer.specs.Operations.{checked_advance_cursor}
-use borrow.Author.Rules.{rules}
 use Rattle.placer.proofs.calls.advance_cursor.Goals as goal
 
 pub returns : goal.returns

@@ -3,7 +3,6 @@ use Rattle.placer.specs.Implementation.Lent.{placer_of}
 use Rattle.placer.proofs.Parts.{row-ended-plain}
 use Rattle.placer.specs.Refusals.{end_row_fault}
 use Rattle.placer.specs.Operations.{checked_end_row}
-use borrow.Author.Rules.{rules}
 use Rattle.placer.proofs.calls.end_row.Goals as goal
 
 pub returns-then-placer : goal.returns-then-placer

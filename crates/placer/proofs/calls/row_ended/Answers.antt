@@ -1,6 +1,5 @@
 use Rattle.placer.specs.Implementation.Lent.{placer_of}
 use Rattle.placer.proofs.Unfaulted.{row-ended-is}
-use borrow.Author.Rules.{rules}
 use Rattle.placer.proofs.calls.row_ended.Goals as goal
 
 pub returns : goal.returns

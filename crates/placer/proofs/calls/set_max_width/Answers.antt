@@ -1,7 +1,6 @@
 use Rattle.placer.specs.Implementation.Lent.{placer_of}
 use Rattle.placer.specs.Rules.{set_max_width}
 use Rattle.placer.specs.Operations.{checked_set_max_width}
-use borrow.Author.Rules.{rules}
 use Rattle.placer.proofs.calls.set_max_width.Goals as goal
 
 pub returns : goal.returns

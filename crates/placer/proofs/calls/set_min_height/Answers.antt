@@ -2,7 +2,6 @@ use Rattle.emath.specs.Steps.{tick}
 use Rattle.placer.specs.Implementation.Lent.{placer_of}
 use Rattle.placer.specs.Operations.{checked_set_min_height}
 use Rattle.placer.proofs.Kept.{min-height-region}
-use borrow.Author.Rules.{rules}
 use Rattle.placer.proofs.calls.set_min_height.Goals as goal
 
 pub returns : goal.returns

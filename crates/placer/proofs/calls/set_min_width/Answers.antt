@@ -2,7 +2,6 @@ use Rattle.emath.specs.Steps.{tick}
 use Rattle.placer.specs.Implementation.Lent.{placer_of}
 use Rattle.placer.specs.Operations.{checked_set_min_width}
 use Rattle.placer.proofs.Kept.{min-width-region}
-use borrow.Author.Rules.{rules}
 use Rattle.placer.proofs.calls.set_min_width.Goals as goal
 
 pub returns : goal.returns

@@ -1,6 +1,5 @@
 use Rattle.placer.specs.Rules.{set_row_height}
 use Rattle.placer.specs.Operations.{checked_set_row_height}
-use borrow.Author.Rules.{rules}
 use Rattle.placer.proofs.calls.set_row_height.Goals as goal
 
 pub returns : goal.returns

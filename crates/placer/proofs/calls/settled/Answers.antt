@@ -1,7 +1,6 @@
 use Rattle.placer.specs.Rules.{with_region}
 use Rattle.placer.specs.Implementation.Lent.{placer_of}
 use Rattle.placer.proofs.Unfaulted.{region-fault, changed-is}
-use borrow.Author.Rules.{rules}
 use Rattle.placer.proofs.calls.settled.Goals as goal
 
 pub returns : goal.returns

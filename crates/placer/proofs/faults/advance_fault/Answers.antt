@@ -1,5 +1,4 @@
 use Rattle.placer.specs.Refusals.{advance_fault}
-use borrow.Author.Rules.{rules}
 use Rattle.placer.proofs.faults.advance_fault.Goals as goal
 
 pub returns : goal.returns

@@ -1,5 +1,4 @@
 use Rattle.emath.specs.Refusals.{least}
-use borrow.Author.Rules.{rules}
 use Rattle.placer.proofs.faults.cell_fault.Goals as goal
 
 pub returns : goal.returns

@@ -1,5 +1,4 @@
 use Rattle.placer.specs.Refusals.{end_row_fault}
-use borrow.Author.Rules.{rules}
 use Rattle.placer.proofs.faults.end_row_fault.Goals as goal
 
 pub returns : goal.returns

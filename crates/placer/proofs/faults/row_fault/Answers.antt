@@ -1,4 +1,3 @@
-use borrow.Author.Rules.{rules}
 use Rattle.placer.proofs.faults.row_fault.Goals as goal
 
 pub returns : goal.returns

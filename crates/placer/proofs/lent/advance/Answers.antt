@@ -1,6 +1,5 @@
 use Rattle.placer.specs.Implementation.Lent.{placer_of}
 use Rattle.placer.proofs.Parts.{past-grid, past-plain}
-use borrow.Author.Rules.{rules}
 use Rattle.placer.proofs.lent.advance.Goals as goal
 
 pub returns-then-placer : goal.returns-then-placer

@@ -1,5 +1,4 @@
 use Rattle.placer.specs.Rules.{moved_past, set_cursor}
-use borrow.Author.Rules.{rules}
 use Rattle.placer.proofs.lent.cursor_past.Goals as goal
 
 pub returns-then-placer : goal.returns-then-placer

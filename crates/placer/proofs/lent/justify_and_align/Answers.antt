@@ -1,5 +1,4 @@
 use Rattle.placer.specs.Rules.{justify_and_align}
-use borrow.Author.Rules.{rules}
 use Rattle.placer.proofs.lent.justify_and_align.Goals as goal
 
 pub returns-then-placer : goal.returns-then-placer

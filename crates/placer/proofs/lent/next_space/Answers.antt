@@ -1,5 +1,4 @@
 use Rattle.placer.specs.Rules.{next_space}
-use borrow.Author.Rules.{rules}
 use Rattle.placer.proofs.lent.next_space.Goals as goal
 
 pub returns-then-placer : goal.returns-then-placer

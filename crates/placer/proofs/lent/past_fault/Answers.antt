@@ -1,5 +1,4 @@
 use Rattle.placer.specs.Implementation.Lent.{past_part}
-use borrow.Author.Rules.{rules}
 use Rattle.placer.proofs.lent.past_fault.Goals as goal
 
 pub returns : goal.returns

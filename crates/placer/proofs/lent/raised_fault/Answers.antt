@@ -1,5 +1,4 @@
 use Rattle.placer.specs.Implementation.Lent.{raised_part}
-use borrow.Author.Rules.{rules}
 use Rattle.placer.proofs.lent.raised_fault.Goals as goal
 
 pub returns-then-placer : goal.returns-then-placer

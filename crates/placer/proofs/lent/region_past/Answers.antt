@@ -1,6 +1,5 @@
 use Rattle.placer.specs.Implementation.Lent.{placer_of}
 use Rattle.placer.proofs.Parts.{region-past}
-use borrow.Author.Rules.{rules}
 use Rattle.placer.proofs.lent.region_past.Goals as goal
 
 -- the cursor is no part of it

@@ -1,4 +1,3 @@
-use borrow.Author.Rules.{rules}
 use Rattle.placer.proofs.lent.state.Goals as goal
 
 pub returns : goal.returns

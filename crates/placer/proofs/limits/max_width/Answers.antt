@@ -1,5 +1,4 @@
 use Rattle.placer.specs.Rules.{set_max_width, next_widget_space_ignore_wrap_justify}
-use borrow.Author.Rules.{rules}
 use Rattle.placer.proofs.limits.max_width.Goals as goal
 
 pub returns : goal.returns

@@ -1,5 +1,4 @@
 use Rattle.placer.specs.Rules.{expand_to_include_y, grown_down, set_min_height, next_widget_space_ignore_wrap_justify}
-use borrow.Author.Rules.{rules}
 use Rattle.placer.proofs.limits.min_height.Goals as goal
 
 pub returns-then-height : goal.returns-then-height

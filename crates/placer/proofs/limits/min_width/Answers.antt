@@ -1,5 +1,4 @@
 use Rattle.placer.specs.Rules.{expand_to_include_x, grown_across, set_min_width, next_widget_space_ignore_wrap_justify}
-use borrow.Author.Rules.{rules}
 use Rattle.placer.proofs.limits.min_width.Goals as goal
 
 pub returns-then-width : goal.returns-then-width

@@ -1,5 +1,4 @@
 use Rattle.placer.specs.Rules.{set_max_width}
-use borrow.Author.Rules.{rules}
 use Rattle.placer.proofs.limits.set_max_width.Goals as goal
 
 pub returns : goal.returns

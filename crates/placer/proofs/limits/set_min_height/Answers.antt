@@ -1,6 +1,5 @@
 use Rattle.emath.specs.Steps.{tick}
 use Rattle.placer.proofs.Kept.{min-height-region}
-use borrow.Author.Rules.{rules}
 use Rattle.placer.proofs.limits.set_min_height.Goals as goal
 
 pub returns : goal.returns

@@ -1,5 +1,4 @@
 use Rattle.records.specs.Records.{grid_fits}
-use borrow.Author.Rules.{rules}
 use Rattle.records.proofs.grids.grid_fits.Goals as goal
 
 pub returns : goal.returns

@@ -1,4 +1,3 @@
-use borrow.Author.Rules.{rules}
 use Rattle.records.specs.Records.{maxima_fit}
 use Rattle.records.proofs.grids.maxima_fit.Goals as goal
 

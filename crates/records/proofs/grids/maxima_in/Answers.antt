@@ -1,4 +1,3 @@
-use borrow.Author.Rules.{rules}
 use Rattle.records.specs.Records.{maxima_in}
 use Rattle.records.proofs.grids.maxima_in.Goals as goal
 

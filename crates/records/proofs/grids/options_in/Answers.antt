@@ -1,4 +1,3 @@
-use borrow.Author.Rules.{rules}
 use Rattle.records.specs.Records.{options_in}
 use Rattle.records.proofs.grids.options_in.Goals as goal
 

@@ -1,7 +1,6 @@
 use mathlib.Core.Path.{ap, ◌∙◌}
 use Rattle.text.specs.Letters as letters
 use Rattle.records.specs.Headings.{past}
-use borrow.Author.Rules.{rules}
 use Rattle.records.proofs.headings.grid_at.Goals as goal
 
 pub returns : goal.returns

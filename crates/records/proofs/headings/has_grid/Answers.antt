@@ -1,7 +1,6 @@
 use mathlib.Core.Path.{ap, ◌∙◌}
 use Rattle.text.specs.Letters as letters
 use Rattle.records.specs.Headings.{stands, has_grid_lem}
-use borrow.Author.Rules.{rules}
 use Rattle.records.proofs.headings.has_grid.Goals as goal
 
 pub returns : goal.returns

@@ -1,7 +1,6 @@
 use mathlib.Core.Path.{ap, ◌∙◌}
 use Rattle.records.specs.declared.Heading.{Heading}
 use Rattle.records.proofs.HeadingFaults.{no-heading, no-unit, no-options, all_fit}
-use borrow.Author.Rules.{rules}
 use Rattle.records.proofs.headings.heading_fault.Goals as goal
 
 pub returns-then-not-heading_fits : goal.returns-then-not-heading_fits

@@ -2,7 +2,6 @@ use mathlib.Core.Path.{ap, ◌∙◌}
 use native.Mathlib.Omega.{arith}
 use Rattle.records.specs.Records.{options_in}
 use Rattle.records.proofs.Places.{part_at}
-use borrow.Author.Rules.{rules}
 use Rattle.records.proofs.headings.options.Goals as goal
 
 pub slice_bounds-options_in-count : goal.slice_bounds-options_in-count

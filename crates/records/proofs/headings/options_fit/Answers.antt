@@ -3,7 +3,6 @@ use native.Mathlib.Omega.{arith}
 use Rattle.records.specs.Records.{grid_fits}
 use Rattle.records.specs.Headings.{options_fit}
 use Rattle.records.proofs.Places.{part_at}
-use borrow.Author.Rules.{rules}
 use Rattle.records.proofs.headings.options_fit.Goals as goal
 
 pub slice_bounds-grid_fits-count : goal.slice_bounds-grid_fits-count

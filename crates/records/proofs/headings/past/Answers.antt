@@ -1,6 +1,5 @@
 use Rattle.records.specs.Headings.{past}
 use Rattle.records.proofs.Places.{next-within}
-use borrow.Author.Rules.{rules}
 use Rattle.records.proofs.headings.past.Goals as goal
 
 pub returns-then-stands : goal.returns-then-stands

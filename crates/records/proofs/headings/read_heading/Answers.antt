@@ -1,6 +1,5 @@
 use native.Mathlib.Omega.{arith}
 use Rattle.records.specs.Headings.{unit_in, heading_in}
-use borrow.Author.Rules.{rules}
 use Rattle.records.proofs.headings.read_heading.Goals as goal
 
 pub returns : goal.returns

@@ -1,5 +1,4 @@
 use Rattle.records.proofs.Places.{stands-there}
-use borrow.Author.Rules.{rules}
 use Rattle.records.proofs.headings.stands.Goals as goal
 
 pub returns : goal.returns

@@ -1,5 +1,4 @@
 use Rattle.records.proofs.Places.{next-within}
-use borrow.Author.Rules.{rules}
 use Rattle.records.proofs.headings.unit_at.Goals as goal
 
 pub returns : goal.returns

@@ -5,7 +5,6 @@ use mathlib.Core.List.{List}
 use Rattle.records.specs.Parts.{ends}
 use Rattle.records.specs.Headings.{unit_fits}
 use Rattle.records.proofs.Places.{part_at}
-use borrow.Author.Rules.{rules}
 use Rattle.records.proofs.headings.unit_fits.Goals as goal
 
 pub slice_bounds-ends-count : goal.slice_bounds-ends-count

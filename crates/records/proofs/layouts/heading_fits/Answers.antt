@@ -1,5 +1,4 @@
 use Rattle.records.specs.Records.{heading_fits}
-use borrow.Author.Rules.{rules}
 use Rattle.records.proofs.layouts.heading_fits.Goals as goal
 
 pub returns : goal.returns

@@ -1,4 +1,3 @@
-use borrow.Author.Rules.{rules}
 use Rattle.records.specs.Records.{layout_fits}
 use Rattle.records.proofs.layouts.layout_fits.Goals as goal
 

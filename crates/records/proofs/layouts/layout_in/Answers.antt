@@ -1,4 +1,3 @@
-use borrow.Author.Rules.{rules}
 use Rattle.records.specs.Records.{layout_in}
 use Rattle.records.proofs.layouts.layout_in.Goals as goal
 

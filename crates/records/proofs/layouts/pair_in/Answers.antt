@@ -1,4 +1,3 @@
-use borrow.Author.Rules.{rules}
 use Rattle.records.specs.Records.{pair_in}
 use Rattle.records.proofs.layouts.pair_in.Goals as goal
 

@@ -1,4 +1,3 @@
-use borrow.Author.Rules.{rules}
 use Rattle.records.specs.Records.{rect_in}
 use Rattle.records.proofs.layouts.rect_in.Goals as goal
 

@@ -1,4 +1,3 @@
-use borrow.Author.Rules.{rules}
 use Rattle.records.specs.Parts.{count_in}
 use Rattle.records.proofs.parts.count.Goals as goal
 

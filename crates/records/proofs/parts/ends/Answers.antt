@@ -1,4 +1,3 @@
-use borrow.Author.Rules.{rules}
 use Rattle.records.specs.Parts.{ends}
 use Rattle.records.proofs.parts.ends.Goals as goal
 

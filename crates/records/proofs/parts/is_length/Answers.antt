@@ -1,4 +1,3 @@
-use borrow.Author.Rules.{rules}
 use Rattle.records.specs.Parts.{is_length}
 use Rattle.records.proofs.parts.is_length.Goals as goal
 

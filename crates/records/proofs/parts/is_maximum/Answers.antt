@@ -1,4 +1,3 @@
-use borrow.Author.Rules.{rules}
 use Rattle.records.specs.Parts.{is_maximum}
 use Rattle.records.proofs.parts.is_maximum.Goals as goal
 

@@ -1,5 +1,4 @@
 use Rattle.records.specs.Parts.{length_in}
-use borrow.Author.Rules.{rules}
 use Rattle.records.proofs.parts.length.Goals as goal
 
 pub returns : goal.returns

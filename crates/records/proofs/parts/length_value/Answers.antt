@@ -1,4 +1,3 @@
-use borrow.Author.Rules.{rules}
 use Rattle.records.specs.Parts.{length_value}
 use Rattle.records.proofs.parts.length_value.Goals as goal
 

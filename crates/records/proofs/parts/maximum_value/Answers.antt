@@ -1,4 +1,3 @@
-use borrow.Author.Rules.{rules}
 use Rattle.records.specs.Parts.{maximum_value}
 use Rattle.records.proofs.parts.maximum_value.Goals as goal
 

@@ -1,6 +1,5 @@
 use borrow.Author.Tests.{ne_eqb}
 use Rattle.records.specs.Records.{record_of}
-use borrow.Author.Rules.{rules}
 use Rattle.records.proofs.records.first_record.Goals as goal
 
 pub returns-in-87 : goal.returns-in-87

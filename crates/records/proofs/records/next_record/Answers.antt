@@ -1,4 +1,3 @@
-use borrow.Author.Rules.{rules}
 use Rattle.records.proofs.Places.{next-beyond, next-short, next-there}
 use Rattle.records.proofs.records.next_record.Goals as goal
 

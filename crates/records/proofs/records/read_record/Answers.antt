@@ -1,4 +1,3 @@
-use borrow.Author.Rules.{rules}
 use Rattle.records.proofs.Places.{beyond, there}
 use Rattle.records.proofs.records.read_record.Goals as goal
 

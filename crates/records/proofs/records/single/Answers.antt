@@ -1,5 +1,4 @@
 use borrow.Author.Tests.{ne_eqb}
-use borrow.Author.Rules.{rules}
 use Rattle.records.specs.Records.{single_record}
 use Rattle.records.proofs.records.single.Goals as goal
 

@@ -1,4 +1,3 @@
-use borrow.Author.Rules.{rules}
 use Rattle.records.specs.Records.{step_record}
 use Rattle.records.proofs.records.step_record.Goals as goal
 

@@ -1,4 +1,3 @@
-use borrow.Author.Rules.{rules}
 use Rattle.records.specs.Records.{widget_record}
 use Rattle.records.proofs.records.widget.Goals as goal
 

@@ -1,5 +1,4 @@
 use Rattle.records.proofs.Checks.{answer-says}
-use borrow.Author.Rules.{rules}
 use Rattle.records.proofs.sheets.check.Goals as goal
 
 pub returns : goal.returns

@@ -1,16 +1,10 @@
-use Rattle.records.specs.declared.Heading.{Heading}
-use Rattle.records.specs.Records.{record_at}
 use Rattle.records.specs.Headings.{heading_in}
 use Rattle.records.specs.Sheets.{records_from}
 use Rattle.records.specs.Implementation.SizeCache.{cached_from, cached_by}
-use Rattle.records.proofs.Reached.{Reached, start-at, next, on-heading, misplaced-answer, too_many, ended-answer}
-use Rattle.records.proofs.Places.{next-within, heading-within}
-use Rattle.records.proofs.SizeCache.{stored-length, not-cached, cached-start, cached-next, cached-ended, cached-full, cached-stopped}
+use Rattle.records.proofs.Reached.{Reached}
 use lib.ListN.{length, drop}
-use mathlib.Core.Path.{◌≡◌, refl, ap, sym, ◌∙◌}
+use mathlib.Core.Path.{◌≡◌}
 use Prim.Native.Nat.{◌+◌, ◌≤◌}
-use native.Mathlib.Omega.{arith}
-use borrow.Author.Rules.{rules}
 use Rattle.records.proofs.sheets.check_caching.Given as goal
 
 abbrev pub invariant-loop-left : goal.invariant-loop-left

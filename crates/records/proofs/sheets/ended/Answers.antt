@@ -1,5 +1,4 @@
 use borrow.Author.Tests.{le-ltb, lt-ltb}
-use borrow.Author.Rules.{rules}
 use Rattle.records.proofs.sheets.ended.Goals as goal
 
 pub returns-then-room-w : goal.returns-then-room-w

@@ -1,5 +1,4 @@
 use Rattle.records.specs.Implementation.SizeCache.{is_step}
-use borrow.Author.Rules.{rules}
 use Rattle.records.proofs.sheets.is_step.Goals as goal
 
 pub returns-in-Step : goal.returns-in-Step

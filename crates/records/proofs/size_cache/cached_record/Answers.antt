@@ -1,7 +1,6 @@
 use mathlib.Core.Path.{sym, ◌∙◌}
 use Rattle.records.specs.Records.{record_at}
 use Rattle.records.proofs.Places.{letter_at}
-use borrow.Author.Rules.{rules}
 use Rattle.records.proofs.size_cache.cached_record.Goals as goal
 
 pub returns-then-byte-eq87 : goal.returns-then-byte-eq87

@@ -1,6 +1,4 @@
 use Rattle.records.specs.Implementation.SizeCache.{stored_step}
-use lib.ListN.{length-set}
-use native.Mathlib.Omega.{arith}
 use borrow.Author.Rules.{rules}
 use Rattle.records.proofs.size_cache.store_step.Goals as goal
 

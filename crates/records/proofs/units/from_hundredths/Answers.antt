@@ -1,6 +1,5 @@
 use native.Mathlib.Omega.{arith}
 use Rattle.records.proofs.HundredthTicks.{product-fits, sum_fits, quotient_fits, quotient_is}
-use borrow.Author.Rules.{rules}
 use Rattle.records.proofs.units.from_hundredths.Goals as goal
 
 pub overflow_mul-result : goal.overflow_mul-result

@@ -1,4 +1,3 @@
-use borrow.Author.Rules.{rules}
 use Rattle.region.specs.Directions.{is_horizontal}
 use Rattle.region.proofs.Direction.is_horizontal.Goals as goal
 

@@ -1,4 +1,3 @@
-use borrow.Author.Rules.{rules}
 use Rattle.region.specs.Refusals.{closed}
 use Rattle.region.proofs.faults.closed_cursor.Goals as goal
 

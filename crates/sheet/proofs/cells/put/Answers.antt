@@ -1,7 +1,6 @@
 use borrow.Author.Tests.{lt-ltb, le-ltb}
 use native.Mathlib.Omega.{arith}
 use Rattle.sheet.specs.Implementation.Walks.{put_at}
-use borrow.Author.Rules.{rules}
 use Rattle.sheet.proofs.cells.put.Goals as goal
 
 pub returns-then-placed-lt1 : goal.returns-then-placed-lt1

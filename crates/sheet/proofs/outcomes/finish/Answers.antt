@@ -1,7 +1,6 @@
 use Rattle.sheet.specs.Pass.{outcome_of, remembered}
 use Rattle.sheet.specs.Slices.{laid_of}
 use borrow.Author.Tests.{eq-eqb, ne_eqb}
-use borrow.Author.Rules.{rules}
 use Rattle.sheet.proofs.outcomes.finish.Goals as goal
 
 pub returns-then-number-ne0 : goal.returns-then-number-ne0

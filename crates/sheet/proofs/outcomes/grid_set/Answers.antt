@@ -1,4 +1,3 @@
-use borrow.Author.Rules.{rules}
 use Rattle.sheet.specs.Pass.{grid_set, grid_of}
 use Rattle.sheet.proofs.outcomes.grid_set.Goals as goal
 

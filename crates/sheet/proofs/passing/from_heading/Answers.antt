@@ -1,7 +1,6 @@
 use Rattle.sheet.specs.Pass.{headed}
 use Rattle.sheet.proofs.Stepping.{headed-none}
 use Rattle.sheet.proofs.WalkedPasses.{refused-answers, began-answers, with-grid-answers, without-grid-answers, pass-answers}
-use borrow.Author.Rules.{rules}
 use Rattle.sheet.proofs.passing.from_heading.Goals as goal
 
 pub returns-then-number-ne0 : goal.returns-then-number-ne0

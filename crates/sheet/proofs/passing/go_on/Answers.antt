@@ -1,5 +1,4 @@
 use native.Mathlib.Omega.{arith}
-use borrow.Author.Rules.{rules}
 use Rattle.sheet.proofs.passing.go_on.Goals as goal
 
 pub overflow_add-heading : goal.overflow_add-heading

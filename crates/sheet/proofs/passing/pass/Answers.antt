@@ -1,4 +1,3 @@
-use borrow.Author.Rules.{rules}
 use Rattle.sheet.proofs.passing.pass.Goals as goal
 
 pub returns : goal.returns

@@ -1,5 +1,4 @@
 use Rattle.sheet.proofs.WalkedPasses.{as_called}
-use borrow.Author.Rules.{rules}
 use Rattle.sheet.proofs.passing.pass_cached.Goals as goal
 
 pub from_heading-requires : goal.from_heading-requires

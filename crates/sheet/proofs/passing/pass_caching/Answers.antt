@@ -1,7 +1,6 @@
 use mathlib.Core.Path.{sym, ◌∙◌}
 use Rattle.sheet.proofs.Slices.{room_after}
 use Rattle.sheet.proofs.WalkedPasses.{as_called, as-refused}
-use borrow.Author.Rules.{rules}
 use Rattle.sheet.proofs.passing.pass_caching.Goals as goal
 
 pub from_heading-requires : goal.from_heading-requires

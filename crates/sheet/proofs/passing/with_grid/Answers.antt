@@ -1,6 +1,5 @@
 use Rattle.sheet.proofs.Stepping.{grid-set-none}
 use Rattle.sheet.proofs.WalkedPasses.{refused-answers, began-answers}
-use borrow.Author.Rules.{rules}
 use Rattle.sheet.proofs.passing.with_grid.Goals as goal
 
 pub returns-then-number-ne0 : goal.returns-then-number-ne0

@@ -1,7 +1,6 @@
 use native.Mathlib.Omega.{arith}
 use borrow.Author.Tests.{lt-ltb, le-ltb}
 use Rattle.sheet.specs.Implementation.Walks.{joined}
-use borrow.Author.Rules.{rules}
 use Rattle.sheet.proofs.plate.joined.Goals as goal
 
 pub returns-then-w-lt1 : goal.returns-then-w-lt1

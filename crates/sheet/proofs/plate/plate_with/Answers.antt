@@ -1,6 +1,5 @@
 use borrow.Author.Tests.{lt-ltb, le-ltb}
 use Rattle.sheet.specs.Implementation.Walks.{plate_with}
-use borrow.Author.Rules.{rules}
 use Rattle.sheet.proofs.plate.plate_with.Goals as goal
 
 pub returns-then-placed-lt1 : goal.returns-then-placed-lt1

@@ -1,5 +1,4 @@
 use mathlib.Core.Bool.{true, false}
-use borrow.Author.Rules.{rules}
 use Rattle.sheet.proofs.Stepping.{answered-is}
 use Rattle.sheet.proofs.steps.answered_number.Goals as goal
 

@@ -1,4 +1,3 @@
-use borrow.Author.Rules.{rules}
 use Rattle.sheet.proofs.steps.called.Goals as goal
 
 pub returns-in-Changed : goal.returns-in-Changed

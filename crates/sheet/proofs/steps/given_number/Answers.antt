@@ -1,7 +1,6 @@
 use Rattle.emath.specs.Refusals.{least}
 use Rattle.placer.specs.Refusals.{advance_fault}
 use Rattle.sheet.specs.Implementation.Calls.{given_number}
-use borrow.Author.Rules.{rules}
 use Rattle.sheet.proofs.steps.given_number.Goals as goal
 
 pub returns : goal.returns

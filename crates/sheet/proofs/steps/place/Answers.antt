@@ -1,7 +1,6 @@
 use Rattle.placer.specs.Implementation.Lent.{placer_of}
 use Rattle.placer.proofs.Unfaulted.{region-numbers}
 use Rattle.sheet.proofs.Stepping.{placement-refused, placement-accepted}
-use borrow.Author.Rules.{rules}
 use Rattle.sheet.proofs.steps.place.Goals as goal
 
 pub region_past-region-requires : goal.region_past-region-requires

@@ -1,5 +1,4 @@
 use Rattle.sheet.specs.Implementation.Calls.{record_result}
-use borrow.Author.Rules.{rules}
 use Rattle.sheet.proofs.steps.run_record.Goals as goal
 
 pub run_step-requires : goal.run_step-requires

@@ -1,6 +1,5 @@
 use mathlib.Core.Path.{ap, ◌∙◌}
 use Rattle.sheet.specs.Implementation.Calls.{called_by, step_result}
-use borrow.Author.Rules.{rules}
 use Rattle.sheet.proofs.steps.run_step.Goals as goal
 
 pub place-requires : goal.place-requires

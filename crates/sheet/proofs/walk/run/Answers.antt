@@ -1,19 +1,12 @@
-use Prim.Native.Nat.{◌+◌, ◌*◌, ◌≤◌}
-use mathlib.Core.Path.{◌≡◌, ap, sym, ◌∙◌}
+use mathlib.Core.Path.{ap, sym, ◌∙◌}
 use native.Mathlib.Omega.{arith}
-use lib.ListN.{length, drop}
 use Rattle.emath.specs.Steps.{tick}
-use Rattle.region.specs.Refusals.{zero_rect}
-use Rattle.region.specs.Steps.{WholeRect}
 use Rattle.placer.specs.Implementation.Lent.{placer_of}
-use Rattle.records.specs.Sheets.{records_from, widgets}
 use Rattle.records.specs.declared.Record.{Record}
-use Rattle.records.specs.Implementation.SizeCache.{AreCached}
 use Rattle.records.proofs.Places.{next-within}
 use Rattle.records.proofs.SizeCache.{cached-here, still-cached}
-use Rattle.sheet.specs.Implementation.Calls.{record_result, Ready}
+use Rattle.sheet.specs.Implementation.Calls.{record_result}
 use Rattle.sheet.proofs.Plates.{zero-rect, rect-numbers, with-whole}
-use Rattle.sheet.proofs.Walks.{walked}
 use Rattle.sheet.proofs.WalkedRuns.{as-walked}
 use Rattle.sheet.proofs.Walking.{walk_ends, walk-is-full, turn}
 use borrow.Author.Rules.{rules}

@@ -2,7 +2,6 @@ use Rattle.text.proofs.Writing.{minus-room, digits-alone, minus-put}
 use lib.ListN.{length-set}
 use mathlib.Core.Path.{◌∙◌}
 use native.Mathlib.Omega.{arith}
-use borrow.Author.Rules.{rules}
 use Rattle.text.proofs.digits.put.Goals as goal
 
 pub overflow_sub-out : goal.overflow_sub-out

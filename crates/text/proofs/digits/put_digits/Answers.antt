@@ -1,7 +1,5 @@
-use Rattle.text.proofs.Writing.{DigitsSoFar, no-digit-yet, at_most, room-for-one, room-for-two, pair-more, all_done}
-use lib.ListN.{length}
-use mathlib.Core.Path.{◌≡◌, ◌∙◌}
-use Prim.Native.Nat.{◌-◌, ◌≤◌}
+use Rattle.text.proofs.Writing.{no-digit-yet, at_most, room-for-one, room-for-two, pair-more, all_done}
+use mathlib.Core.Path.{◌∙◌}
 use native.Mathlib.Omega.{arith}
 use borrow.Author.Rules.{rules}
 use Rattle.text.proofs.digits.put_digits.Goals as goal

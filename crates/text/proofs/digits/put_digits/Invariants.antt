@@ -1,9 +1,7 @@
-use Rattle.text.proofs.Writing.{DigitsSoFar, no-digit-yet, at_most, room-for-one, room-for-two, pair-more, all_done}
+use Rattle.text.proofs.Writing.{DigitsSoFar}
 use lib.ListN.{length}
-use mathlib.Core.Path.{◌≡◌, ◌∙◌}
+use mathlib.Core.Path.{◌≡◌}
 use Prim.Native.Nat.{◌-◌, ◌≤◌}
-use native.Mathlib.Omega.{arith}
-use borrow.Author.Rules.{rules}
 use Rattle.text.proofs.digits.put_digits.Given as goal
 
 abbrev pub invariant-loop-rest : goal.invariant-loop-rest

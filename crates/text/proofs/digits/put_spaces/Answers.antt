@@ -1,8 +1,5 @@
 use native.Mathlib.Numerals.{unary_clauses}
 use Rattle.text.specs.Implementation.Writing.{spaces}
-use lib.ListN.{length-set}
-use native.Mathlib.Omega.{arith}
-use borrow.Author.Rules.{rules}
 use Rattle.text.proofs.digits.put_spaces.Goals as goal
 
 pub returns : goal.returns

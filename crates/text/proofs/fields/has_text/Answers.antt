@@ -4,7 +4,6 @@ use lib.Signed.{lt_z}
 use mir.ValLaws.{to_z-of_z}
 use mir.Syntax.{w32}
 use Rattle.text.proofs.Signs.{too-low, not_low}
-use borrow.Author.Rules.{rules}
 use Rattle.text.proofs.fields.has_text.Goals as goal
 
 pub returns-then-z : goal.returns-then-z

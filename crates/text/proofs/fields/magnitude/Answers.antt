@@ -2,7 +2,6 @@ use Rattle.text.proofs.Signs.{sub-fits, value, sign, negs-cast, plain-cast, abs_
 use mir.ValLaws.{to_z-of_z}
 use mir.Syntax.{w32}
 use mathlib.Core.Path.{sym, ◌∙◌}
-use borrow.Author.Rules.{rules}
 use Rattle.text.proofs.fields.magnitude.Goals as goal
 
 pub overflow_sub-result : goal.overflow_sub-result

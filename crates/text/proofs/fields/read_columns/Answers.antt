@@ -1,6 +1,5 @@
 use mathlib.Core.Path.{sym, ◌∙◌}
 use Rattle.text.proofs.Scanned.{scanned}
-use borrow.Author.Rules.{rules}
 use Rattle.text.proofs.fields.read_columns.Goals as goal
 
 pub plus-requires : goal.plus-requires

@@ -1,7 +1,6 @@
 use mathlib.Core.Path.{sym, ◌∙◌}
 use Rattle.text.proofs.ScanTurns.{scan-end, scan-stop}
 use Rattle.text.proofs.Scanned.{scanned}
-use borrow.Author.Rules.{rules}
 use Rattle.text.proofs.fields.read_long.Goals as goal
 
 pub returns-then-i-f : goal.returns-then-i-f

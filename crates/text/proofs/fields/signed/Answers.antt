@@ -1,6 +1,5 @@
 use Rattle.text.proofs.ScanTurns.{minus-first, no_minus}
 use native.Mathlib.Omega.{arith}
-use borrow.Author.Rules.{rules}
 use Rattle.text.proofs.fields.signed.Goals as goal
 
 pub returns-then-f-at-eq45 : goal.returns-then-f-at-eq45

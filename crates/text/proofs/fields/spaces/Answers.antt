@@ -1,8 +1,5 @@
-use Prim.Native.Nat.{ℕ, ◌-◌, ◌≤◌}
-use mathlib.Core.Path.{◌≡◌, refl}
+use mathlib.Core.Path.{refl}
 use native.Mathlib.Omega.{arith}
-use lib.ListN.{drop, length}
-use Rattle.text.specs.Implementation.Scanning.{Skips}
 use Rattle.text.proofs.ScanTurns.{scan-turn}
 use borrow.Author.Rules.{rules}
 use Rattle.text.proofs.fields.spaces.Goals as goal

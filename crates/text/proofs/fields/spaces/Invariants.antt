@@ -1,10 +1,6 @@
-use Prim.Native.Nat.{ℕ, ◌-◌, ◌≤◌}
-use mathlib.Core.Path.{◌≡◌, refl}
-use native.Mathlib.Omega.{arith}
-use lib.ListN.{drop, length}
+use Prim.Native.Nat.{◌-◌, ◌≤◌}
+use lib.ListN.{length}
 use Rattle.text.specs.Implementation.Scanning.{Skips}
-use Rattle.text.proofs.ScanTurns.{scan-turn}
-use borrow.Author.Rules.{rules}
 use Rattle.text.proofs.fields.spaces.Given as goal
 
 abbrev pub invariant-loop-i : goal.invariant-loop-i

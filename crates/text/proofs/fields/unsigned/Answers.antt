@@ -1,7 +1,6 @@
 use Rattle.text.proofs.ScanTurns.{no-digits, zero-first, zero-alone, digits-first}
 use mathlib.Core.Path.{refl}
 use native.Mathlib.Omega.{arith}
-use borrow.Author.Rules.{rules}
 use Rattle.text.proofs.fields.unsigned.Goals as goal
 
 pub returns-then-n-at : goal.returns-then-n-at

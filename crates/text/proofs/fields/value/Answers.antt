@@ -1,9 +1,6 @@
 use Rattle.text.proofs.ScanTurns.{few, seven, eight, value-end, too-low, too-high, value-turn}
 use Rattle.text.proofs.Columns.{ten-pos}
-use Rattle.text.specs.Implementation.Scanning.{value_from}
-use lib.ListN.{drop, length}
-use mathlib.Core.Path.{◌≡◌, refl}
-use Prim.Native.Nat.{◌-◌, ◌^◌, ◌≤◌, ◌<◌}
+use mathlib.Core.Path.{refl}
 use native.Mathlib.Omega.{arith}
 use borrow.Author.Rules.{rules}
 use Rattle.text.proofs.fields.value.Goals as goal

@@ -1,12 +1,10 @@
 use Rattle.text.proofs.LineTexts.{have-turn, have-stop, have-end}
-use Rattle.text.specs.Lines.{have_texts}
-use lib.ListN.{length, drop, get_or}
+use lib.ListN.{get_or}
 use lib.IntN.{ℤ, pos}
 use Rattle.text.specs.Fields.{has_text}
 use mir.Val.{to_z, of_z}
 use mir.Syntax.{w32}
 use mathlib.Core.Path.{◌≡◌, ap, ◌∙◌}
-use Prim.Native.Nat.{◌-◌}
 use borrow.Author.Rules.{rules}
 use Rattle.text.proofs.lines.have_texts.Goals as goal
 

@@ -1,8 +1,6 @@
 use Rattle.text.proofs.LineTexts.{line-put}
 use lib.ListN.{length-set}
-use Prim.Native.Nat.{◌-◌}
 use native.Mathlib.Omega.{arith}
-use borrow.Author.Rules.{rules}
 use Rattle.text.proofs.lines.put_line.Goals as goal
 
 pub put_texts-requires : goal.put_texts-requires

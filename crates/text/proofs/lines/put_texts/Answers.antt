@@ -1,7 +1,6 @@
 use Rattle.text.proofs.LineTexts.{have-this, have-rest, put-more, put-none}
 use Rattle.text.proofs.Signs.{has-text-small}
-use Rattle.text.specs.Lines.{have_texts, texts}
-use lib.ListN.{length, drop, get_or}
+use lib.ListN.{get_or}
 use lib.Seq.{sets}
 use lib.IntN.{ℤ, pos}
 use Rattle.text.specs.Fields.{text, has_text}
@@ -9,7 +8,6 @@ use mir.Val.{to_z, of_z}
 use mir.Syntax.{w32}
 use mathlib.Core.Bool.{true}
 use mathlib.Core.Path.{◌≡◌, ap, ◌∙◌}
-use Prim.Native.Nat.{◌+◌, ◌-◌, ◌*◌, ◌≤◌}
 use native.Mathlib.Omega.{arith}
 use borrow.Author.Rules.{rules}
 use Rattle.text.proofs.lines.put_texts.Goals as goal

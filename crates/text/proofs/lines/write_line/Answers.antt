@@ -1,8 +1,6 @@
 use Rattle.text.proofs.LineTexts.{no-room-for-line, no-texts, line-there}
 use mathlib.Core.Path.{sym, ◌∙◌}
-use Prim.Native.Nat.{◌-◌}
 use native.Mathlib.Omega.{arith}
-use borrow.Author.Rules.{rules}
 use Rattle.text.proofs.lines.write_line.Goals as goal
 
 pub returns-then-m-lt2 : goal.returns-then-m-lt2

@@ -1,5 +1,4 @@
 use mathlib.Core.Bool.{◌&&◌}
-use borrow.Author.Rules.{rules}
 use Rattle.text.proofs.ShortReads.{both}
 use Rattle.text.proofs.short.are_digits.Goals as goal
 

@@ -1,6 +1,5 @@
 use native.Mathlib.Omega.{arith}
 use borrow.Author.Tests.{eqb-true}
-use borrow.Author.Rules.{rules}
 use Rattle.text.proofs.ShortReads.{four-skipped}
 use Rattle.text.proofs.short.four_spaces.Goals as goal
 

@@ -1,7 +1,6 @@
 use mathlib.Core.Path.{refl}
 use lib.Dec.{eqb}
 use lib.ListN.{get_or}
-use borrow.Author.Rules.{rules}
 use Rattle.text.proofs.ShortReads.{both, first-digit, columns-read}
 use Rattle.text.proofs.short.short_number.Goals as goal
 

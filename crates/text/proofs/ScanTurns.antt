@@ -1,6 +1,7 @@
 -- A turn of each loop that reads a field, and what each return answers. Assumes nothing.
 use Prim.Native.Nat.{ℕ, suc, ◌+◌, ◌-◌, ◌*◌, ◌^◌, ◌≤◌, ◌<◌}
 use mathlib.Core.Path.{◌≡◌, refl, ap, ◌∙◌}
+use mathlib.Core.Bool.{true, false}
 use mathlib.Core.List.{List, ◌∷◌}
 use native.Mathlib.Omega.{arith}
 use native.Mathlib.Numerals.{add-one}
@@ -8,10 +9,15 @@ use native.Mathlib.Nat.{pow-suc}
 use borrow.Author.Tests.{lt-ltb, le-ltb, eq-eqb, ne_eqb}
 use lib.ListN.{length, get_or, drop, drop_of_length-le}
 use lib.Seq.{drop-cons}
-use Rattle.text.specs.Implementation.Scanning.{none, value_from, zero_only, unsigned, plus, minus, signed, scan}
+use lib.IntN.{pos, ◌-ℤ◌}
+use mir.Syntax.{w32}
+use mir.Val.{to_z, of_z}
+use Rattle.text.specs.Implementation.Scanning.{none, value_from, zero_only, unsigned, fits, plus, minus, signed, scan}
 use Rattle.text.specs.declared.Field.{Field}
-use Rattle.text.specs.declared.Field.TheVariants.{Blank}
+use Rattle.text.specs.declared.Field.TheVariants.{Blank, Number, Wrong}
 use Rattle.text.proofs.Columns.{tens-order}
+use Rattle.text.proofs.Signs.{opposite-value}
+use Rattle.text.proofs.ScanSound.{fits-is}
 
 from : (f : List ℕ) (i : ℕ) → i < length f → drop i f ≡ get_or f i 0 ∷ drop (i + 1) f
 from f i h = drop-cons f i 0 h ∙ rw add-one
@@ -73,6 +79,27 @@ module _ (f : List ℕ) (at : ℕ) where
     pub no_minus : (limit n : ℕ) (r : Field) → (get_or f at 0 ≡ 45 → ⊥) → n ≡ unsigned (drop at f) → r ≡ plus limit n → r ≡ signed limit (drop at f)
     unfolding signed
     no_minus limit n r e en er = er ∙ ap (λ (m : ℕ). plus limit m) en ∙ rw (from f at h, ne_eqb (get_or f at 0) 45 e)
+
+-- each return of `unsigned`, whatever its tests are called
+pub ruleset unsigned_turns = (no-digits, zero-first, zero-alone, digits-first)
+
+-- ---- minus
+module _ (limit n : ℕ) where
+  pub zero-minus : n ≡ 0 → Wrong ≡ minus limit n
+  unfolding minus
+  zero-minus e = rw (eq-eqb n 0 e)
+
+  module _ (z : n ≡ 0 → ⊥) where
+    pub wrong-minus : fits limit n ≡ false → Wrong ≡ minus limit n
+    unfolding minus
+    wrong-minus e = rw (ne_eqb n 0 z, e)
+
+    pub fits-minus : fits limit n ≡ true → ((n ≡ none → ⊥) → n < 100000000) → Number (to_z w32 (of_z w32 (pos 0 -ℤ to_z w32 n))) ≡ minus limit n
+    unfolding minus
+    fits-minus e h = rw (ne_eqb n 0 z, e) (ap Number (opposite-value n (h (fits-is limit n e).0)))
+
+-- each return of `minus`
+pub ruleset minus_turns = (zero-minus, wrong-minus, fits-minus)
 
 -- ---- scan
 module _ (limit : ℕ) (f : List ℕ) (i : ℕ) (r : Field) (inv : scan limit (drop i f) ≡ r) where

@@ -33,6 +33,7 @@ fn value(f: &[u8], at: usize) -> u32
 }
 
 // A zero stands alone: no digit comes after it.
+#[tactic(auto, using(crate::proofs::ScanTurns::unsigned_turns))]
 fn unsigned(f: &[u8], at: usize) -> u32
     requires { (8 ≡ length f.now) × (at ≤ 8) }
     ensures { (result ≡ unsigned_of (drop at f.now)) × ((result ≡ none → ⊥) → result < 100000000) }
@@ -69,6 +70,7 @@ fn plus(n: u32, limit: u32) -> Field
     Field::Wrong
 }
 
+#[tactic(auto, using(crate::proofs::ScanTurns::minus_turns))]
 fn minus(n: u32, limit: u32) -> Field
     requires { (n ≡ none → ⊥) → n < 100000000 }
     ensures { result ≡ minus_of limit n }

@@ -7,7 +7,6 @@ ghost use Rattle.sheet.specs.Ticks.{in_ticks};
 ghost use Rattle.sheet.specs.Slices.{edges, laid_number, laid_record};
 ghost use Rattle.grid.specs.Memories.{memory_of};
 
-use bytes::copy;
 use emath::Rect;
 use grid::Memory;
 use sheet::cells::tick;
@@ -101,6 +100,6 @@ pub(crate) fn copy_whole(from: &[u8], n: usize, out: &mut [u8])
     ensures { out.new ≡ cond (leb n (length out.old)) (sets out.old 0 (take n from.now)) out.old }
 {
     if n <= out.len() {
-        copy(&from[..n], out);
+        out[..n].copy_from_slice(&from[..n]);
     }
 }

@@ -4,11 +4,12 @@
 use drawing::MAX_DRAWING;
 use listing::MAX_TEXT;
 use sheet_drawing::draw_sheet;
+use std::io;
 
-fn main() {
+fn main(rt: HostRuntime) -> io::Result<()> {
     let mut text = [0u8; MAX_TEXT];
     let mut out = [0u8; MAX_DRAWING];
-    let n = io::read_full(libc::STDIN_FILENO, &mut text);
+    let n = reading::read_full(&mut rt.stdin(), &mut text)?;
     let length = draw_sheet(&text[..n], &mut out);
-    io::write_all(libc::STDOUT_FILENO, &out[..length]);
+    rt.write_all(&out[..length])
 }

@@ -3,11 +3,12 @@
 
 use listing::printing::print;
 use listing::{MAX_LIST, MAX_TEXT};
+use std::io;
 
-fn main() {
+fn main(rt: HostRuntime) -> io::Result<()> {
     let mut text = [0u8; MAX_TEXT];
     let mut out = [0u8; MAX_LIST];
-    let n = io::read_full(libc::STDIN_FILENO, &mut text);
+    let n = reading::read_full(&mut rt.stdin(), &mut text)?;
     let length = print(&text[..n], &mut out);
-    io::write_all(libc::STDOUT_FILENO, &out[..length]);
+    rt.write_all(&out[..length])
 }

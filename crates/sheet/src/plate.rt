@@ -7,6 +7,7 @@ use emath::Rect;
 use emath::unions::union_with;
 
 // The plate with the frame of W number w. The first frame is the plate: a plate need not touch 0, 0.
+#[tactic(auto, unfolding(crate::specs::Implementation::Walks::joined))]
 fn joined(plate: Rect, w: usize, frame: Rect) -> Rect
     requires { Numbers plate }
     ensures { result ≡ joined_by plate w frame }

@@ -1,6 +1,6 @@
 /* platelist.h: lays out a sheet from bytes into the caller's memory.
  *
- * Link target/staticlib/libembed.a, which `rt staticlib embed` proves and writes, for x86-64 Linux.
+ * Link crates/embed/out/libembed.a, which `rt lib` in crates/embed proves and writes, for x86-64 Linux.
  * docs/SHEETS.md says how a sheet is written; examples/embed has three programs in C, two of them in
  * Rust too.
  * What is said below of answers, their bounds and contents is promised by the calls' contracts, which

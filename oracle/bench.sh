@@ -16,7 +16,9 @@ timed_probes="probe_sheet probe_listing probe_records"
 build_timed() {
     . tools/libraries.sh
     build_libraries $timed_probes embed
-    tools/in_memory rt check platelist platedraw </dev/null >&2
+    # On an input each program is built where it has to be.
+    ./platelist examples/panel.sheet >/dev/null
+    ./platedraw examples/panel.sheet >/dev/null
 }
 
 # rename_probes FROM TO: copies of an earlier tree's probes, whose entry points are called before_NAME, so that both can be linked.
@@ -42,9 +44,9 @@ show_sizes() {
     printf '%-30s%10s%10s' "read-only memory, in bytes" data code
     if [ $# -eq 2 ]; then printf '%14s%10s' "before: data" code; fi
     printf '\n'
-    for file in bin/platelist bin/platedraw staticlib/libembed.a; do
-        printf '%-30s%s' "$(basename "$file")" "$(sizes "$1/target/$file")"
-        if [ $# -eq 2 ]; then printf '    %s' "$(sizes "$2/target/$file")"; fi
+    for file in crates/platelist/out/platelist crates/platedraw/out/platedraw target/staticlib/libembed.a; do
+        printf '%-30s%s' "$(basename "$file")" "$(sizes "$1/$file")"
+        if [ $# -eq 2 ]; then printf '    %s' "$(sizes "$2/$file")"; fi
         printf '\n'
     done
 }

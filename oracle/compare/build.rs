@@ -1,4 +1,4 @@
-//! Finds the probes' static libraries: in PROBE_LIB_DIR, or where `rt staticlib` puts them.
+//! Finds the probes' static libraries: in PROBE_LIB_DIR, or where tools/libraries.sh puts them.
 use std::env;
 use std::path::Path;
 

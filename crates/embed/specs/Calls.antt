@@ -1,5 +1,5 @@
 -- RULES 7.11: what the calls of include/platelist.h answer, and leave in the caller's memory.
-use Rattle.std.specs.Prelude.{ℕ, Bool, cond, List, leb, ℤ, length, Float}
+use Rattle.std.specs.Prelude.{ℕ, Bool, cond, List, leb, ℤ, length}
 use Rattle.std.proofs.lemmas.List.Edits.{sets}
 use Rattle.emath.specs.Steps.{tick}
 use Rattle.grid.specs.declared.Memory.{Memory}

@@ -17,5 +17,5 @@ next_bytes at room n old got within fits =
 pub loop-done-preserved : goal.loop-done-preserved
 loop-done-preserved g c =
     let room = length c.loop-done.buffer - c.loop-done.done in
-    let next = next_bytes c.loop-done.done room c.in_ok-n.n c.loop-done.buffer c.read.new.buf c.loop-done.invariant.1 c.in_ok-n.ensures.bound.0 in
-    (search rules, search rules, subst (Consumes _ _) (sym next) (Consumes-trans _ _ _ _ _ c.loop-done.invariant.2 c.in_ok-n.ensures.bytes.0))
+    let next = next_bytes c.loop-done.done room c.in-Ok.n c.loop-done.buffer c.read.new.buf c.loop-done.invariant.1 c.in-Ok.ensures.bound.0 in
+    (search rules, search rules, subst (Consumes _ _) (sym next) (Consumes-trans _ _ _ _ _ c.loop-done.invariant.2 c.in-Ok.ensures.bytes.0))

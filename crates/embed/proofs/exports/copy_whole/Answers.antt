@@ -1,4 +1,4 @@
-use Rattle.std.proofs.Common.{◌≡◌, ap, length, List, ℕ, drop, ◌++◌}
+use Rattle.std.proofs.Common.{ap, List, ℕ, drop, ◌++◌}
 use native.Mathlib.Omega.{arith}
 use Rattle.embed.proofs.Copied.{copied}
 use Rattle.embed.proofs.exports.copy_whole.Goals as goal

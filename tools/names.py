@@ -6,7 +6,7 @@ of src/, the must-fail edits and the names in the pages. Functions of src/, stri
 import re
 import subprocess
 
-# A name, and the places that are left alone: strings and comments.
+# A name; and strings, which are left alone, and comments, where names are turned too.
 TOKEN = re.compile(r"[A-Za-z_][A-Za-z0-9_'’′₀-₉]*")
 PARTS = {
     'antt': re.compile(r'"(?:[^"\\\n]|\\.)*"|--[^\n]*'),
@@ -39,7 +39,7 @@ def spelled(name):
 
 
 def turned(text, kind):
-    """The text with its names turned, but for strings and, of .rt files, comments."""
+    """The text with its names turned, but for strings."""
     out, at = [], 0
     for part in PARTS[kind].finditer(text):
         out.append(names(text[at:part.start()], kind))

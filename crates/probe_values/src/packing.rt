@@ -119,8 +119,8 @@ pub fn put_vec2_at(lengths: &mut Lengths, at: usize, v: Vec2)
 
 // The `n` lengths of one that begin at `start`, to places of another that begin at `at`.
 pub fn copy(to: &mut [f32], at: usize, from: &[f32], start: usize, n: usize)
-    requires n_in_bounds { at + n ≤ length to.old }
-    requires n_in_bounds_2 { start + n ≤ length from.now }
+    requires in_to { at + n ≤ length to.old }
+    requires in_from { start + n ≤ length from.now }
     ensures { length to.new ≡ length to.old }
 {
     let mut i: usize = 0;

@@ -6,7 +6,14 @@ use lib.Ieee.Fits.{down_pos}
 use lib.Ieee.Scale.{round_same}
 use Rattle.emath.specs.Rectangles.{zero_f}
 use Rattle.emath.specs.Domain.{finite, limit, within, both_of, edges_of, inside_out}
-use Rattle.emath.specs.Refusals.{when, lesser, least, or_else, length_fault, pair_fault, edges_fault, rect_fault, outside}
+use Rattle.std.specs.Prelude.{Option, None, Some}
+use Rattle.std.specs.Bool.{then_some}
+use Rattle.std.specs.Ordering.{ord_min}
+use Rattle.emath.specs.contracts.RefusalOrd.TheImpl.{cmp-value}
+use Rattle.std.specs.Option.{option_or, option_and}
+use Rattle.emath.specs.Refusals.{when, lesser, least, or_else, length_fault, pair_fault, edges_fault, rect_fault, outside, number_of, fault_number, answered, answer, numbered}
+use Rattle.emath.specs.declared.Refusal.{Refusal}
+use Rattle.emath.specs.declared.Refusal.TheVariants.{Malformed, Outside}
 use Rattle.emath.specs.Implementation.NoNaN.{IsNumber, Numbers}
 use Rattle.emath.proofs.Tests.{both, bools, not-lt, T_of}
 use Rattle.emath.proofs.OrderLaws.{Number, nan-or-number}
@@ -181,3 +188,34 @@ edges-numbers r h = let w = edges-within r h in record { left = no_nan _ w.left;
 pub rect-none : (r : Rect) → rect_fault r ≡ 0 → (edges_fault r ≡ 0) × (inside_out r ≡ false)
 unfolding rect_fault least
 rect-none r h = let p = lesser-none (edges_fault r) (when (inside_out r) 6) h in (p.0, when-never (inside_out r) 5 p.1)
+
+-- ---- the number of a reason that may be none
+pub when-number : (b : Bool) (e : Refusal) → fault_number (then_some b e) ≡ when b (number_of e)
+when-number true e = refl
+when-number false e = refl
+
+pub or-number : (a b : Option Refusal) → fault_number (option_or a b) ≡ or_else (fault_number a) (fault_number b)
+unfolding or_else
+or-number None b = refl
+or-number (Some Malformed) b = refl
+or-number (Some e) b = refl
+
+pub outside-number : (a : Option Refusal) → fault_number (option_and a (Some Outside)) ≡ outside (fault_number a)
+unfolding outside
+outside-number None = refl
+outside-number (Some Malformed) = refl
+outside-number (Some e) = refl
+
+-- ---- an answer, by the number of what it was made of
+pub numbered-answer : {A : Type 0} (f : Option Refusal) (x : A) → numbered (answered f x) ≡ answer (fault_number f) x
+unfolding answer
+numbered-answer None x = refl
+numbered-answer (Some Malformed) x = refl
+numbered-answer (Some e) x = refl
+
+pub first-number : (x y : Refusal) → number_of (ord_min (cmp-value).it x y) ≡ lesser (number_of x) (number_of y)
+unfolding lesser
+first-number Malformed Malformed = refl
+first-number Malformed y = refl
+first-number x Malformed = refl
+first-number x y = refl

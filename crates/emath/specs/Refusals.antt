@@ -1,11 +1,14 @@
--- RULES 8.2, 8.5, 8.13: which numbers lengths, sizes and rectangles have of their own, and which of several is the call's. 0 is none.
-use Rattle.std.specs.Prelude.{ℕ, Bool, cond, not, List, [], ◌∷◌, ◌==◌, nat_lt, Float}
+-- RULES 8.2, 8.4, 8.5, 8.13: which numbers lengths, sizes and rectangles have of their own, which of several is the call's, and what the
+-- call answers. 0 is none.
+use Rattle.std.specs.Prelude.{ℕ, Bool, cond, not, List, [], ◌∷◌, ◌==◌, nat_lt, Float, Option, None, Some, Result, Ok, Err}
 use Rattle.std.specs.Float.Ieee.{lt}
 use Rattle.emath.specs.Rectangles.{zero_f}
 use Rattle.emath.specs.Domain.{finite, within, both_of, edges_of, negative, inside_out}
 use Rattle.emath.specs.Numbers as number
 use Rattle.emath.specs.declared.Vec2.{Vec2}
 use Rattle.emath.specs.declared.Rect.{Rect}
+use Rattle.emath.specs.declared.Refusal.{Refusal}
+use Rattle.emath.specs.declared.Refusal.TheVariants.{Malformed, TooLong, NoRoom, NotFinite, TooFar, Negative, NotInGrid, GridFull, Outside}
 
 -- ---- RULES 8.2: of all the numbers that apply, the least
 -- a number, where its condition holds
@@ -53,3 +56,35 @@ rect_fault r = least (edges_fault r ∷ when (inside_out r) number.negative ∷ 
 -- RULES 8.13: 9 for whatever number an answer has of its own
 unfoldable pub outside : ℕ → ℕ
 outside n = cond (n == 0) 0 number.outside
+
+-- ---- RULES 8.1, 8.4: what the calls answer
+-- RULES 8.1: the number of a refusal, …
+abbrev pub number_of : Refusal → ℕ
+number_of Malformed = number.malformed
+number_of TooLong = number.too_long
+number_of NoRoom = number.no_room
+number_of NotFinite = number.not_finite
+number_of TooFar = number.too_far
+number_of Negative = number.negative
+number_of NotInGrid = number.not_in_grid
+number_of GridFull = number.grid_full
+number_of Outside = number.outside
+
+-- … and 0 where there is none
+abbrev pub fault_number : Option Refusal → ℕ
+fault_number None = 0
+fault_number (Some e) = number_of e
+
+-- RULES 8.4: a value, or the refusal
+abbrev pub answered : {A : Type 0} → Option Refusal → A → Result A Refusal
+answered None x = Ok x
+answered (Some e) x = Err e
+
+-- RULES 8.4: a value, or the refusal's number
+unfoldable pub answer : {A : Type 0} → ℕ → A → Result A ℕ
+answer n x = cond (n == 0) (Ok x) (Err n)
+
+-- RULES 8.1, 8.4: an answer with the number for the refusal
+abbrev pub numbered : {A : Type 0} → Result A Refusal → Result A ℕ
+numbered (Ok x) = Ok x
+numbered (Err e) = Err (number_of e)

@@ -1,85 +1,115 @@
-// RULES 8.5: the numbers that values of this crate's types have of their own. 0: none.
-ghost use Rattle.std.specs.Prelude.{◌≡◌};
-ghost use Rattle.emath.specs.Refusals.{when, lesser, or_else, length_fault, extent_fault, pair_fault, size_fault, edges_fault, rect_fault, outside};
+// RULES 8.5: why values of this crate's types are refused of their own; RULES 8.2, 8.4, 8.13: which of several reasons is the call's, and
+// what the call answers.
+ghost use Rattle.std.specs.Prelude.{◌≡◌, not};
+ghost use Rattle.emath.specs.Numbers as number;
+ghost use Rattle.emath.specs.Refusals.{when, lesser, length_fault, extent_fault, pair_fault, size_fault, edges_fault, rect_fault, outside, number_of, fault_number, answered};
 
 use crate::domain::{both_finite, both_within, is_finite, is_within};
-use crate::numbers::{NEGATIVE, NOT_FINITE, OUTSIDE, TOO_FAR};
-use crate::{Rect, Vec2};
+use crate::{Rect, Refusal, Vec2};
 
-pub fn number_when(b: bool, n: u8) -> u8
-    ensures { result ≡ when b n }
-{
-    if b { n } else { 0 }
+impl Refusal {
+    pub fn number(self) -> u8
+        ensures { result ≡ number_of self }
+    {
+        self as u8
+    }
 }
 
-pub fn lesser_number(a: u8, b: u8) -> u8
-    ensures { result ≡ lesser a b }
+// The one with the lesser number.
+pub fn first_of(a: Option<Refusal>, b: Option<Refusal>) -> Option<Refusal>
+    ensures { fault_number result ≡ lesser (fault_number a) (fault_number b) }
 {
-    if a == 0 {
+    let Some(x) = a else {
         return b;
-    }
-    if b == 0 {
+    };
+    let Some(y) = b else {
         return a;
-    }
-    if a < b { a } else { b }
+    };
+    Some(x.min(y))
 }
 
-pub fn or_else(n: u8, m: u8) -> u8
-    ensures { result ≡ or_else n m }
+// Of numbers that are not all within the limit.
+fn beyond(are_finite: bool) -> Refusal
+    ensures { number_of result ≡ lesser (when (not are_finite) number.not_finite) number.too_far }
 {
-    if n == 0 { m } else { n }
+    if are_finite {
+        Refusal::TooFar
+    } else {
+        Refusal::NotFinite
+    }
 }
 
 // What is within the limit is finite: here and below most calls end at the first test.
-pub fn length_fault(x: f32) -> u8
-    ensures { result ≡ length_fault x }
+pub fn length_fault(x: f32) -> Option<Refusal>
+    ensures { fault_number result ≡ length_fault x }
 {
     if is_within(x) {
-        return 0;
+        return None;
     }
-    lesser_number(number_when(!is_finite(x), NOT_FINITE), TOO_FAR)
+    Some(beyond(is_finite(x)))
 }
 
 // Of a maximum width or height, say, which is not negative.
-pub fn extent_fault(x: f32) -> u8
-    ensures { result ≡ extent_fault x }
+pub fn extent_fault(x: f32) -> Option<Refusal>
+    ensures { fault_number result ≡ extent_fault x }
 {
-    lesser_number(length_fault(x), number_when(x < 0.0, NEGATIVE))
+    first_of(
+        length_fault(x),
+        (x < 0.0).then_some(Refusal::Negative),
+    )
 }
 
-pub fn pair_fault(x: f32, y: f32) -> u8
-    ensures { result ≡ pair_fault x y }
+pub fn pair_fault(x: f32, y: f32) -> Option<Refusal>
+    ensures { fault_number result ≡ pair_fault x y }
 {
     if both_within(x, y) {
-        return 0;
+        return None;
     }
-    lesser_number(number_when(!both_finite(x, y), NOT_FINITE), TOO_FAR)
+    Some(beyond(both_finite(x, y)))
 }
 
-pub fn size_fault(v: Vec2) -> u8
-    ensures { result ≡ size_fault v }
+pub fn size_fault(v: Vec2) -> Option<Refusal>
+    ensures { fault_number result ≡ size_fault v }
 {
-    lesser_number(pair_fault(v.x, v.y), number_when(v.is_negative(), NEGATIVE))
+    first_of(
+        pair_fault(v.x, v.y),
+        v.is_negative().then_some(Refusal::Negative),
+    )
 }
 
-pub fn edges_fault(r: Rect) -> u8
-    ensures { result ≡ edges_fault r }
+pub fn edges_fault(r: Rect) -> Option<Refusal>
+    ensures { fault_number result ≡ edges_fault r }
 {
     if r.is_within() {
-        return 0;
+        return None;
     }
-    lesser_number(number_when(!r.is_finite(), NOT_FINITE), TOO_FAR)
+    Some(beyond(r.is_finite()))
 }
 
-pub fn rect_fault(r: Rect) -> u8
-    ensures { result ≡ rect_fault r }
+pub fn rect_fault(r: Rect) -> Option<Refusal>
+    ensures { fault_number result ≡ rect_fault r }
 {
-    lesser_number(edges_fault(r), number_when(r.is_inside_out(), NEGATIVE))
+    first_of(
+        edges_fault(r),
+        r.is_inside_out().then_some(Refusal::Negative),
+    )
 }
 
-// The number of an answer or a new state that has the fault n.
-pub fn outside_domain(n: u8) -> u8
-    ensures { result ≡ outside n }
+// Of an answer or a new state that has this fault.
+pub fn outside_domain(fault: Option<Refusal>) -> Option<Refusal>
+    ensures { fault_number result ≡ outside (fault_number fault) }
 {
-    if n == 0 { 0 } else { OUTSIDE }
+    fault.and(Some(Refusal::Outside))
+}
+
+// What a call answers that has this fault, or none.
+pub fn answer<T>(fault: Option<Refusal>, value: T) -> Result<T, Refusal>
+where
+    T: Drop,
+    ensures { result ≡ answered fault value }
+{
+    match fault {
+        None => Ok(value),
+        Some(refusal) => Err(refusal),
+    }
 }

@@ -7,7 +7,6 @@ pub mod domain;
 pub mod faults;
 pub mod gui_rounding;
 pub mod num;
-pub mod numbers;
 mod rects;
 pub mod unions;
 
@@ -51,6 +50,20 @@ pub enum Align {
 pub struct Align2 {
     pub x: Align,
     pub y: Align,
+}
+
+// RULES 8.1: why a call or a sheet is refused, in the order in which the reasons are looked for.
+#[derive(Clone, Copy, PartialEq, Eq, PartialOrd, Ord)]
+pub enum Refusal {
+    Malformed = 1,
+    TooLong,
+    NoRoom,
+    NotFinite,
+    TooFar,
+    Negative,
+    NotInGrid,
+    GridFull,
+    Outside,
 }
 
 // RULES 1.2: a tick is 1/32 point.

@@ -8,4 +8,4 @@ returns-then-is_within c = no-fault _ (sym c.is_within.ensures ∙ c.if-is_withi
 
 pub returns : goal.returns
 unfolding edges_fault least
-returns c = rw (← c.is_within.ensures, c.if-is_within.false, c.lesser_number.ensures, c.number_when.ensures, c.is_finite.ensures)
+returns c = rw (c.beyond.ensures, c.is_finite.ensures, ← c.is_within.ensures, c.if-is_within.false)

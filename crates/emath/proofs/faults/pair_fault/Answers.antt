@@ -8,4 +8,4 @@ returns-then-both_within c = pair-quick _ _ (sym c.both_within.ensures ∙ c.if-
 
 pub returns : goal.returns
 unfolding pair_fault least
-returns c = rw (← c.both_within.ensures, c.if-both_within.false, c.lesser_number.ensures, c.number_when.ensures, c.both_finite.ensures)
+returns c = rw (c.beyond.ensures, c.both_finite.ensures, ← c.both_within.ensures, c.if-both_within.false)

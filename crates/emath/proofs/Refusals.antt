@@ -1,5 +1,5 @@
 -- Laws of the refusals: what is finite, what a fault of 0 says of the parts, and that edges within the limit have none. Assumes nothing.
-use Rattle.std.proofs.Common.{◌≡◌, ℕ, zero, suc, ◌*◌, ◌<◌, ◌≤◌, Bool, true, false, cond, not, ◌&&◌, T, eqb, ltb, ◌⊎◌, List, [], ◌∷◌, pos, sym, refl, ◌∙◌, subst, inl, inr, true≢false, mul-pos, arith, eqb→eq, ltb→lt, nltb→le, eq-eqb, eqb-true}
+use Rattle.std.proofs.Common.{◌≡◌, ap, ℕ, zero, suc, ◌*◌, ◌<◌, ◌≤◌, Bool, true, false, cond, not, ◌&&◌, T, eqb, ltb, ◌⊎◌, List, [], ◌∷◌, pos, sym, refl, ◌∙◌, subst, inl, inr, true≢false, mul-pos, arith, eqb→eq, ltb→lt, nltb→le, eq-eqb, eqb-true}
 use native.Mathlib.Nat.{sub_self}
 use lib.Ieee.{Float, nan, inf, fin, binary32, of_bits, up, down, round, sum, add, sub, neg, eq, lt, le}
 use lib.Ieee.Fits.{down_pos}
@@ -11,7 +11,7 @@ use Rattle.std.specs.Bool.{then_some}
 use Rattle.std.specs.Ordering.{ord_min}
 use Rattle.emath.specs.contracts.RefusalOrd.TheImpl.{cmp-value}
 use Rattle.std.specs.Option.{option_or, option_and}
-use Rattle.emath.specs.Refusals.{when, lesser, least, or_else, length_fault, pair_fault, edges_fault, rect_fault, outside, number_of, fault_number, answered, answer, numbered}
+use Rattle.emath.specs.Refusals.{when, lesser, least, or_else, length_fault, pair_fault, edges_fault, rect_fault, outside, number_of, fault_number, answered, answer, numbered, answer_number, answer_value, or_zeros}
 use Rattle.emath.specs.declared.Refusal.{Refusal}
 use Rattle.emath.specs.declared.Refusal.TheVariants.{Malformed, Outside}
 use Rattle.emath.specs.Implementation.NoNaN.{IsNumber, Numbers}
@@ -219,3 +219,17 @@ first-number Malformed Malformed = refl
 first-number Malformed y = refl
 first-number x Malformed = refl
 first-number x y = refl
+
+pub answer-number : {A : Type 0} (n : ℕ) (x : A) → answer_number (answer n x) ≡ n
+unfolding answer
+answer-number zero x = refl
+answer-number (suc n) x = rw (some n)
+
+pub answer-value : {A : Type 0} (zeros : A) (n : ℕ) (x : A) → answer_value zeros (answer n x) ≡ or_zeros zeros n x
+unfolding answer or_zeros
+answer-value zeros zero x = refl
+answer-value zeros (suc n) x = rw (some n)
+
+-- what an answer says: the number it was made of, and the value that goes with it
+pub says : {A : Type 0} (zeros : A) (n : ℕ) (x : A) → (answer_number (answer n x) ≡ n) × (answer_value zeros (answer n x) ≡ or_zeros zeros (answer_number (answer n x)) x)
+says zeros n x = (answer-number n x, answer-value zeros n x ∙ ap (λ (m : ℕ). or_zeros zeros m x) (sym (answer-number n x)))

@@ -88,3 +88,16 @@ answer n x = cond (n == 0) (Ok x) (Err n)
 abbrev pub numbered : {A : Type 0} → Result A Refusal → Result A ℕ
 numbered (Ok x) = Ok x
 numbered (Err e) = Err (number_of e)
+
+-- RULES 8.4: an answer's number, 0 where it has a value; and its value, or zeros where it is refused
+abbrev pub answer_number : {A : Type 0} → Result A ℕ → ℕ
+answer_number (Ok x) = 0
+answer_number (Err n) = n
+
+abbrev pub answer_value : {A : Type 0} → A → Result A ℕ → A
+answer_value zeros (Ok x) = x
+answer_value zeros (Err n) = zeros
+
+-- RULES 8.4: what a call of this number has for a value: the rule's where it is 0, else zeros
+unfoldable pub or_zeros : {A : Type 0} → A → ℕ → A → A
+or_zeros zeros n x = cond (n == 0) x zeros

@@ -1,141 +1,141 @@
-// The public calls, in layout.rs's order: each answers the least number that applies to its arguments or its answer, or what its rule gives.
+// The public calls, in layout.rs's order: each answers the refusal of the least number that applies to its arguments or its answer, or what its
+// rule gives.
 ghost use Rattle.std.specs.Prelude.{◌≡◌};
 ghost use Rattle.emath.specs.Steps.{tick};
-ghost use Rattle.region.specs.Refusals.{rect_number, rect_value, rect_or_zero, pos_number, pos_value, pos_or_zero, size_number, size_value, size_or_zero};
+ghost use Rattle.emath.specs.Refusals.{numbered, answer_number, answer_value, or_zeros};
+ghost use Rattle.region.specs.Regions.{zero_vec};
+ghost use Rattle.region.specs.Refusals.{zero_rect, zero_pos, zero_region, region_outcome, cursor_outcome};
 ghost use Rattle.layout.specs.Rules.{align_size_within_rect, available_from_cursor_max_rect, available_rect_before_wrap, available_size, initial_cursor, justify_and_align, next_frame, next_frame_ignore_wrap, next_widget_position, next_widget_space_ignore_wrap_justify};
 ghost use Rattle.layout.specs.Operations.{checked_align_size_within_rect, checked_initial_cursor, checked_region_from_max_rect, checked_available_rect_before_wrap, checked_available_size, checked_available_from_cursor_max_rect, checked_next_frame, checked_next_frame_ignore_wrap, checked_justify_and_align, checked_next_widget_space_ignore_wrap_justify, checked_next_widget_position, checked_advance_cursor, checked_advance_after_rects, checked_end_row, checked_set_row_height, align_size_within_rect_number, available_from_cursor_max_rect_number, available_rect_before_wrap_number, available_size_number, initial_cursor_number, justify_and_align_number, next_frame_ignore_wrap_number, next_frame_number, next_widget_position_number, next_widget_space_ignore_wrap_justify_number};
 
 use crate::{Layout, available, cursors, frames, widgets};
 use emath::faults::{
-    length_fault, lesser_number, or_else, outside_domain, pair_fault, rect_fault, size_fault,
+    answer, first_of, length_fault, outside_domain, pair_fault, rect_fault, size_fault,
 };
-use emath::{Rect, Vec2};
-use region::faults::{
-    changed_region, cursor_answer, cursor_fault, placed_rect, pos_answer, rect_answer,
-    region_fault, size_answer, zero_region,
-};
-use region::{CursorAnswer, PosAnswer, RectAnswer, Region, RegionAnswer, SizeAnswer};
+use emath::{Pos2, Rect, Refusal, Vec2};
+use region::Region;
+use region::faults::{changed_region, cursor_fault, placed_rect, region_fault};
 
 impl Layout {
-    pub fn align_size_within_rect(self, size: Vec2, outer: Rect) -> RectAnswer
-        ensures answer { result ≡ checked_align_size_within_rect tick self size outer }
-        ensures says { (rect_number result ≡ align_size_within_rect_number tick self size outer) × (rect_value result ≡ rect_or_zero (rect_number result) (align_size_within_rect tick self size outer)) }
+    pub fn align_size_within_rect(self, size: Vec2, outer: Rect) -> Result<Rect, Refusal>
+        ensures answer { numbered result ≡ checked_align_size_within_rect tick self size outer }
+        ensures says { (answer_number (numbered result) ≡ align_size_within_rect_number tick self size outer) × (answer_value zero_rect (numbered result) ≡ or_zeros zero_rect (answer_number (numbered result)) (align_size_within_rect tick self size outer)) }
     {
         let rect = widgets::align_size_within_rect(self, size, outer);
-        placed_rect(lesser_number(size_fault(size), rect_fault(outer)), rect)
+        placed_rect(first_of(size_fault(size), rect_fault(outer)), rect)
     }
 
-    pub fn initial_cursor(self, max_rect: Rect) -> RectAnswer
-        ensures answer { result ≡ checked_initial_cursor self max_rect }
-        ensures says { (rect_number result ≡ initial_cursor_number self max_rect) × (rect_value result ≡ rect_or_zero (rect_number result) (initial_cursor self.main_dir max_rect)) }
+    pub fn initial_cursor(self, max_rect: Rect) -> Result<Rect, Refusal>
+        ensures answer { numbered result ≡ checked_initial_cursor self max_rect }
+        ensures says { (answer_number (numbered result) ≡ initial_cursor_number self max_rect) × (answer_value zero_rect (numbered result) ≡ or_zeros zero_rect (answer_number (numbered result)) (initial_cursor self.main_dir max_rect)) }
     {
         let d = self.main_dir;
         let cursor = available::initial_cursor(d, max_rect);
         let after = outside_domain(cursor_fault(d, cursor));
-        rect_answer(or_else(rect_fault(max_rect), after), cursor)
+        answer(rect_fault(max_rect).or(after), cursor)
     }
 
-    pub fn region_from_max_rect(self, max_rect: Rect) -> RegionAnswer
-        ensures { result ≡ checked_region_from_max_rect tick self max_rect }
+    pub fn region_from_max_rect(self, max_rect: Rect) -> Result<Region, Refusal>
+        ensures { region_outcome zero_region result ≡ checked_region_from_max_rect tick self max_rect }
     {
         let d = self.main_dir;
         let new = widgets::region_from_max_rect(self, max_rect);
-        changed_region(d, rect_fault(max_rect), zero_region(), new)
+        changed_region(d, rect_fault(max_rect), new)
     }
 
-    pub fn available_rect_before_wrap(self, region: Region) -> RectAnswer
-        ensures answer { result ≡ checked_available_rect_before_wrap self region }
-        ensures says { (rect_number result ≡ available_rect_before_wrap_number self region) × (rect_value result ≡ rect_or_zero (rect_number result) (available_rect_before_wrap self.main_dir region)) }
+    pub fn available_rect_before_wrap(self, region: Region) -> Result<Rect, Refusal>
+        ensures answer { numbered result ≡ checked_available_rect_before_wrap self region }
+        ensures says { (answer_number (numbered result) ≡ available_rect_before_wrap_number self region) × (answer_value zero_rect (numbered result) ≡ or_zeros zero_rect (answer_number (numbered result)) (available_rect_before_wrap self.main_dir region)) }
     {
         let d = self.main_dir;
         let rect = available::available_rect_before_wrap(d, region);
         placed_rect(region_fault(d, region), rect)
     }
 
-    pub fn available_size(self, region: Region) -> SizeAnswer
-        ensures answer { result ≡ checked_available_size self region }
-        ensures says { (size_number result ≡ available_size_number self region) × (size_value result ≡ size_or_zero (size_number result) (available_size self region)) }
+    pub fn available_size(self, region: Region) -> Result<Vec2, Refusal>
+        ensures answer { numbered result ≡ checked_available_size self region }
+        ensures says { (answer_number (numbered result) ≡ available_size_number self region) × (answer_value zero_vec (numbered result) ≡ or_zeros zero_vec (answer_number (numbered result)) (available_size self region)) }
     {
         let d = self.main_dir;
         let size = available::available_size(self, region);
         let after = outside_domain(pair_fault(size.x, size.y));
-        size_answer(or_else(region_fault(d, region), after), size)
+        answer(region_fault(d, region).or(after), size)
     }
 
-    pub fn available_from_cursor_max_rect(self, cursor: Rect, max_rect: Rect) -> RectAnswer
-        ensures answer { result ≡ checked_available_from_cursor_max_rect self cursor max_rect }
-        ensures says { (rect_number result ≡ available_from_cursor_max_rect_number self cursor max_rect) × (rect_value result ≡ rect_or_zero (rect_number result) (available_from_cursor_max_rect self.main_dir cursor max_rect)) }
+    pub fn available_from_cursor_max_rect(self, cursor: Rect, max_rect: Rect) -> Result<Rect, Refusal>
+        ensures answer { numbered result ≡ checked_available_from_cursor_max_rect self cursor max_rect }
+        ensures says { (answer_number (numbered result) ≡ available_from_cursor_max_rect_number self cursor max_rect) × (answer_value zero_rect (numbered result) ≡ or_zeros zero_rect (answer_number (numbered result)) (available_from_cursor_max_rect self.main_dir cursor max_rect)) }
     {
         let d = self.main_dir;
         let rect = available::available_from_cursor_max_rect(d, cursor, max_rect);
         placed_rect(
-            lesser_number(cursor_fault(d, cursor), rect_fault(max_rect)),
+            first_of(cursor_fault(d, cursor), rect_fault(max_rect)),
             rect,
         )
     }
 
-    pub fn next_frame(self, region: Region, child_size: Vec2, spacing: Vec2) -> RectAnswer
-        ensures answer { result ≡ checked_next_frame tick self region child_size spacing }
-        ensures says { (rect_number result ≡ next_frame_number tick self region child_size spacing) × (rect_value result ≡ rect_or_zero (rect_number result) (next_frame tick self region child_size spacing)) }
+    pub fn next_frame(self, region: Region, child_size: Vec2, spacing: Vec2) -> Result<Rect, Refusal>
+        ensures answer { numbered result ≡ checked_next_frame tick self region child_size spacing }
+        ensures says { (answer_number (numbered result) ≡ next_frame_number tick self region child_size spacing) × (answer_value zero_rect (numbered result) ≡ or_zeros zero_rect (answer_number (numbered result)) (next_frame tick self region child_size spacing)) }
     {
         let d = self.main_dir;
         let frame = frames::next_frame(self, region, child_size, spacing);
-        let sizes = lesser_number(size_fault(child_size), pair_fault(spacing.x, spacing.y));
-        placed_rect(lesser_number(region_fault(d, region), sizes), frame)
+        let sizes = first_of(size_fault(child_size), pair_fault(spacing.x, spacing.y));
+        placed_rect(first_of(region_fault(d, region), sizes), frame)
     }
 
-    pub fn next_frame_ignore_wrap(self, region: Region, child_size: Vec2) -> RectAnswer
-        ensures answer { result ≡ checked_next_frame_ignore_wrap tick self region child_size }
-        ensures says { (rect_number result ≡ next_frame_ignore_wrap_number tick self region child_size) × (rect_value result ≡ rect_or_zero (rect_number result) (next_frame_ignore_wrap tick self region child_size)) }
+    pub fn next_frame_ignore_wrap(self, region: Region, child_size: Vec2) -> Result<Rect, Refusal>
+        ensures answer { numbered result ≡ checked_next_frame_ignore_wrap tick self region child_size }
+        ensures says { (answer_number (numbered result) ≡ next_frame_ignore_wrap_number tick self region child_size) × (answer_value zero_rect (numbered result) ≡ or_zeros zero_rect (answer_number (numbered result)) (next_frame_ignore_wrap tick self region child_size)) }
     {
         let d = self.main_dir;
         let frame = frames::next_frame_ignore_wrap(self, region, child_size);
         placed_rect(
-            lesser_number(region_fault(d, region), size_fault(child_size)),
+            first_of(region_fault(d, region), size_fault(child_size)),
             frame,
         )
     }
 
-    pub fn justify_and_align(self, frame: Rect, child_size: Vec2) -> RectAnswer
-        ensures answer { result ≡ checked_justify_and_align tick self frame child_size }
-        ensures says { (rect_number result ≡ justify_and_align_number tick self frame child_size) × (rect_value result ≡ rect_or_zero (rect_number result) (justify_and_align tick self frame child_size)) }
+    pub fn justify_and_align(self, frame: Rect, child_size: Vec2) -> Result<Rect, Refusal>
+        ensures answer { numbered result ≡ checked_justify_and_align tick self frame child_size }
+        ensures says { (answer_number (numbered result) ≡ justify_and_align_number tick self frame child_size) × (answer_value zero_rect (numbered result) ≡ or_zeros zero_rect (answer_number (numbered result)) (justify_and_align tick self frame child_size)) }
     {
         let widget = widgets::justify_and_align(self, frame, child_size);
         placed_rect(
-            lesser_number(rect_fault(frame), size_fault(child_size)),
+            first_of(rect_fault(frame), size_fault(child_size)),
             widget,
         )
     }
 
-    pub fn next_widget_space_ignore_wrap_justify(self, region: Region, size: Vec2) -> RectAnswer
-        ensures answer { result ≡ checked_next_widget_space_ignore_wrap_justify tick self region size }
-        ensures says { (rect_number result ≡ next_widget_space_ignore_wrap_justify_number tick self region size) × (rect_value result ≡ rect_or_zero (rect_number result) (next_widget_space_ignore_wrap_justify tick self region size)) }
+    pub fn next_widget_space_ignore_wrap_justify(self, region: Region, size: Vec2) -> Result<Rect, Refusal>
+        ensures answer { numbered result ≡ checked_next_widget_space_ignore_wrap_justify tick self region size }
+        ensures says { (answer_number (numbered result) ≡ next_widget_space_ignore_wrap_justify_number tick self region size) × (answer_value zero_rect (numbered result) ≡ or_zeros zero_rect (answer_number (numbered result)) (next_widget_space_ignore_wrap_justify tick self region size)) }
     {
         let d = self.main_dir;
         let rect = widgets::next_widget_space_ignore_wrap_justify(self, region, size);
         placed_rect(
-            lesser_number(region_fault(d, region), size_fault(size)),
+            first_of(region_fault(d, region), size_fault(size)),
             rect,
         )
     }
 
-    pub fn next_widget_position(self, region: Region) -> PosAnswer
-        ensures answer { result ≡ checked_next_widget_position tick self region }
-        ensures says { (pos_number result ≡ next_widget_position_number tick self region) × (pos_value result ≡ pos_or_zero (pos_number result) (next_widget_position tick self region)) }
+    pub fn next_widget_position(self, region: Region) -> Result<Pos2, Refusal>
+        ensures answer { numbered result ≡ checked_next_widget_position tick self region }
+        ensures says { (answer_number (numbered result) ≡ next_widget_position_number tick self region) × (answer_value zero_pos (numbered result) ≡ or_zeros zero_pos (answer_number (numbered result)) (next_widget_position tick self region)) }
     {
         let d = self.main_dir;
         let pos = widgets::next_widget_position(self, region);
         let after = outside_domain(pair_fault(pos.x, pos.y));
-        pos_answer(or_else(region_fault(d, region), after), pos)
+        answer(region_fault(d, region).or(after), pos)
     }
 
-    pub fn advance_cursor(self, region: Region, amount: f32) -> RegionAnswer
-        ensures { result ≡ checked_advance_cursor self region amount }
+    pub fn advance_cursor(self, region: Region, amount: f32) -> Result<Region, Refusal>
+        ensures { region_outcome region result ≡ checked_advance_cursor self region amount }
     {
         let d = self.main_dir;
         let new = cursors::advance_cursor(d, region, amount);
-        let before = lesser_number(region_fault(d, region), length_fault(amount));
-        changed_region(d, before, region, new)
+        let before = first_of(region_fault(d, region), length_fault(amount));
+        changed_region(d, before, new)
     }
 
     pub fn advance_after_rects(
@@ -144,36 +144,36 @@ impl Layout {
         frame_rect: Rect,
         widget_rect: Rect,
         item_spacing: Vec2,
-    ) -> CursorAnswer
-        ensures { result ≡ checked_advance_after_rects self cursor frame_rect widget_rect item_spacing }
+    ) -> Result<Rect, Refusal>
+        ensures { cursor_outcome cursor result ≡ checked_advance_after_rects self cursor frame_rect widget_rect item_spacing }
     {
         let d = self.main_dir;
         let new = cursors::advance_after_rects(self, cursor, frame_rect, widget_rect, item_spacing);
-        let rest = lesser_number(
+        let rest = first_of(
             rect_fault(widget_rect),
             pair_fault(item_spacing.x, item_spacing.y),
         );
-        let rects = lesser_number(rect_fault(frame_rect), rest);
-        let before = lesser_number(cursor_fault(d, cursor), rects);
+        let rects = first_of(rect_fault(frame_rect), rest);
+        let before = first_of(cursor_fault(d, cursor), rects);
         let after = outside_domain(cursor_fault(d, new));
-        cursor_answer(or_else(before, after), cursor, new)
+        answer(before.or(after), new)
     }
 
-    pub fn end_row(self, region: Region, spacing: Vec2) -> RegionAnswer
-        ensures { result ≡ checked_end_row self region spacing }
+    pub fn end_row(self, region: Region, spacing: Vec2) -> Result<Region, Refusal>
+        ensures { region_outcome region result ≡ checked_end_row self region spacing }
     {
         let d = self.main_dir;
         let new = cursors::end_row(self, region, spacing);
-        let before = lesser_number(region_fault(d, region), pair_fault(spacing.x, spacing.y));
-        changed_region(d, before, region, new)
+        let before = first_of(region_fault(d, region), pair_fault(spacing.x, spacing.y));
+        changed_region(d, before, new)
     }
 
-    pub fn set_row_height(self, region: Region, height: f32) -> RegionAnswer
-        ensures { result ≡ checked_set_row_height self region height }
+    pub fn set_row_height(self, region: Region, height: f32) -> Result<Region, Refusal>
+        ensures { region_outcome region result ≡ checked_set_row_height self region height }
     {
         let d = self.main_dir;
         let new = cursors::set_row_height(self, region, height);
-        let before = lesser_number(region_fault(d, region), length_fault(height));
-        changed_region(d, before, region, new)
+        let before = first_of(region_fault(d, region), length_fault(height));
+        changed_region(d, before, new)
     }
 }

@@ -4,4 +4,4 @@ use Rattle.region.proofs.faults.region_fault.Goals as goal
 
 pub returns : goal.returns
 unfolding region_fault least
-returns c = rw (c.lesser_number-2.ensures, c.lesser_number.ensures, c.cursor_fault.ensures, c.rect_fault-2.ensures, c.rect_fault.ensures)
+returns c = rw (c.first_of-2.ensures, c.first_of.ensures, c.cursor_fault.ensures, c.rect_fault-2.ensures, c.rect_fault.ensures)

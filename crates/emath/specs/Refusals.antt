@@ -1,6 +1,6 @@
 -- RULES 8.2, 8.4, 8.5, 8.13: which numbers lengths, sizes and rectangles have of their own, which of several is the call's, and what the
 -- call answers. 0 is none.
-use Rattle.std.specs.Prelude.{ℕ, Bool, cond, not, List, [], ◌∷◌, ◌==◌, nat_lt, Float, Option, None, Some, Result, Ok, Err}
+use Rattle.std.specs.Prelude.{ℕ, ◌≡◌, Bool, cond, not, List, [], ◌∷◌, ◌==◌, nat_lt, Float, Option, None, Some, Result, Ok, Err}
 use Rattle.std.specs.Float.Ieee.{lt}
 use Rattle.emath.specs.Rectangles.{zero_f}
 use Rattle.emath.specs.Domain.{finite, within, both_of, edges_of, negative, inside_out}
@@ -101,3 +101,7 @@ answer_value zeros (Err n) = zeros
 -- RULES 8.4: what a call of this number has for a value: the rule's where it is 0, else zeros
 unfoldable pub or_zeros : {A : Type 0} → A → ℕ → A → A
 or_zeros zeros n x = cond (n == 0) x zeros
+
+-- RULES 8.4: what an answer says: this number, and this value with it
+abbrev pub Says : {A : Type 0} → A → Result A ℕ → ℕ → A → Type 0
+Says zeros a n x = (answer_number a ≡ n) × (answer_value zeros a ≡ or_zeros zeros (answer_number a) x)

@@ -1,8 +1,10 @@
 -- RULES 8.4, 8.5, 8.11, 8.13: the faults of a memory and a grid, and the answers that carry the numbers.
-use Rattle.std.specs.Prelude.{ℕ, Bool, true, false, cond, not, [], ◌∷◌, eqb, ltb, Float}
+use Rattle.std.specs.Prelude.{ℕ, ◌≡◌, Bool, true, false, cond, not, [], ◌∷◌, eqb, ltb, Float, Option, None, Some, Result, Ok, Err}
+use Rattle.std.specs.Bool.{then_some}
 use Rattle.emath.specs.Rectangles.{zero_f}
 use Rattle.emath.specs.Numbers as number
-use Rattle.emath.specs.Refusals.{when, least, pair_fault, size_fault, edges_fault}
+use Rattle.emath.specs.Refusals.{when, least, pair_fault, size_fault, edges_fault, number_of, answer, answer_number, or_zeros}
+use Rattle.emath.specs.declared.Refusal.{Refusal}
 use Rattle.region.specs.Regions.{infinity}
 use Rattle.region.specs.Refusals.{zero_if_open, cursor_fault}
 use Rattle.grid.specs.Entries.{entries_fault}
@@ -14,12 +16,6 @@ use Rattle.grid.specs.declared.Memory.{Memory}
 use Rattle.grid.specs.declared.GridLayout.{GridLayout}
 use Rattle.grid.specs.declared.Moved.{Moved}
 use Rattle.grid.specs.declared.Saved.{Saved}
-use Rattle.grid.specs.declared.LengthAnswer.{LengthAnswer}
-use Rattle.grid.specs.declared.LengthAnswer.TheVariants.{Length, Nothing, Refused}
-use Rattle.grid.specs.declared.MemoryAnswer.{MemoryAnswer}
-use Rattle.grid.specs.declared.GridAnswer.{GridAnswer}
-use Rattle.grid.specs.declared.MovedAnswer.{MovedAnswer}
-use Rattle.grid.specs.declared.SavedAnswer.{SavedAnswer}
 
 -- ---- the faults of a state
 -- RULES 8.5: 4, 5 and 6 of the counted entries; 8 where more is counted than there is room for
@@ -51,7 +47,23 @@ unfoldable pub moved_fault : Direction → Moved → ℕ
 moved_fault d m = least (grid_fault m.grid ∷ cursor_fault d m.cursor ∷ [])
 
 -- ---- RULES 8.4: the answers
--- the number, and the state that is new, or the one that was given
+-- the number, and the state: the new one, or the one that was given
+pub record MemoryAnswer : Type 0 where
+  pub number : ℕ
+  pub memory : Memory
+
+pub record GridAnswer : Type 0 where
+  pub number : ℕ
+  pub grid : GridLayout
+
+pub record MovedAnswer : Type 0 where
+  pub number : ℕ
+  pub moved : Moved
+
+pub record SavedAnswer : Type 0 where
+  pub number : ℕ
+  pub saved : Saved
+
 unfoldable pub memory_answer : ℕ → Memory → Memory → MemoryAnswer
 memory_answer n given new = record { number = n; memory = cond (eqb n 0) new given }
 
@@ -65,25 +77,32 @@ moved_answer n given new = record { number = n; moved = cond (eqb n 0) new given
 unfoldable pub saved_answer : ℕ → Memory → Saved → SavedAnswer
 saved_answer n given new = record { number = n; saved = cond (eqb n 0) new (record { memory = given; save = false }) }
 
--- RULES 8.4: a length, or the refusal
-unfoldable pub length_answer : ℕ → Float → LengthAnswer
-length_answer n v = cond (eqb n 0) (Length v) (Refused n)
+-- RULES 8.1, 8.4: what an answer says, where this state was given
+abbrev pub memory_outcome : Memory → Result Memory Refusal → MemoryAnswer
+memory_outcome given (Ok m) = record { number = 0; memory = m }
+memory_outcome given (Err e) = record { number = number_of e; memory = given }
 
--- RULES 8.4: an entry that may not be there
-unfoldable pub entry_answer : ℕ → Bool → Float → LengthAnswer
-entry_answer n there v = cond (eqb n 0) (cond there (Length v) Nothing) (Refused n)
+abbrev pub grid_outcome : GridLayout → Result GridLayout Refusal → GridAnswer
+grid_outcome given (Ok g) = record { number = 0; grid = g }
+grid_outcome given (Err e) = record { number = number_of e; grid = given }
 
--- RULES 8.4: the number and the value of each case: where nothing is remembered the value is zero, as where the call is refused
-unfoldable pub length_number : LengthAnswer → ℕ
-length_number (Length v) = 0
-length_number Nothing = 0
-length_number (Refused n) = n
+abbrev pub moved_outcome : Moved → Result Moved Refusal → MovedAnswer
+moved_outcome given (Ok m) = record { number = 0; moved = m }
+moved_outcome given (Err e) = record { number = number_of e; moved = given }
 
-unfoldable pub length_value : LengthAnswer → Float
-length_value (Length v) = v
-length_value Nothing = zero_f
-length_value (Refused n) = zero_f
+abbrev pub saved_outcome : Memory → Result Saved Refusal → SavedAnswer
+saved_outcome given (Ok s) = record { number = 0; saved = s }
+saved_outcome given (Err e) = record { number = number_of e; saved = record { memory = given; save = false } }
 
--- RULES 8.4: what a call of this number has for a value: the rule's where it is 0, else zero
-unfoldable pub length_or_zero : ℕ → Float → Float
-length_or_zero n v = cond (eqb n 0) v zero_f
+-- RULES 8.4: an entry that may not be there, or the refusal's number
+unfoldable pub entry_answer : ℕ → Bool → Float → Result (Option Float) ℕ
+entry_answer n there v = answer n (then_some there v)
+
+-- RULES 8.4: where nothing is remembered the value is zero, as where the call is refused
+abbrev pub entry_value : Result (Option Float) ℕ → Float
+entry_value (Ok (Some v)) = v
+entry_value (Ok None) = zero_f
+entry_value (Err n) = zero_f
+
+abbrev pub SaysEntry : Result (Option Float) ℕ → ℕ → Float → Type 0
+SaysEntry a n v = (answer_number a ≡ n) × (entry_value a ≡ or_zeros zero_f (answer_number a) v)

@@ -1,8 +1,10 @@
 // A list of lengths in an array with a count: the first `n` entries of `xs`, as the Rust's Vec holds them. For both lengths of array.
 ghost use Rattle.std.specs.Prelude.{◌≡◌, ◌-◌, ◌≤◌, ◌<◌, length, take};
+ghost use Rattle.emath.specs.Refusals.{fault_number};
 ghost use Rattle.grid.specs.Entries.{entry, cleared, raised, total, same_entries, entries_fault};
 
-use emath::faults::{extent_fault, lesser_number};
+use emath::Refusal;
+use emath::faults::{extent_fault, first_of};
 use emath::num::max;
 
 // The entry at `i`, or `other` where there is none.
@@ -68,16 +70,16 @@ pub fn same_entries(xs: &[f32], ys: &[f32], n: usize) -> bool
     same
 }
 
-// The least number of an entry: 4, 5, or 6 for a negative one.
-pub fn entries_fault(xs: &[f32], n: usize) -> u8
+// The first fault of an entry: not finite, too far or negative.
+pub fn entries_fault(xs: &[f32], n: usize) -> Option<Refusal>
     requires { n ≤ length xs.now }
-    ensures { result ≡ entries_fault (take n xs.now) }
+    ensures { fault_number result ≡ entries_fault (take n xs.now) }
 {
-    let mut fault: u8 = 0;
+    let mut fault = None;
     let mut i = n;
     while 0 < i {
         i -= 1;
-        fault = lesser_number(extent_fault(xs[i]), fault);
+        fault = first_of(extent_fault(xs[i]), fault);
     }
     fault
 }

@@ -1,6 +1,6 @@
 // egui's grid.rs (RULES 3): the memory of a grid's column widths and row heights, and the grid's layout.
 // The unchecked rules are total functions, in `memories` and `grids`; `operations` holds the public calls, which refuse by RULES 8.16 with
-// the numbers of `faults`.
+// the faults of `faults`.
 #![tactic(auto)]
 
 use emath::{Rect, Vec2};
@@ -67,33 +67,6 @@ pub struct GridState {
     pub row: usize,
 }
 
-// A remembered length, none, or the number by which the call is refused.
-#[derive(Clone, Copy)]
-pub enum LengthAnswer {
-    Length(f32),
-    Nothing,
-    Refused(u8),
-}
-
-// Calls that change a state: the number (0: none), and the state, the given one where it is refused.
-#[derive(Clone, Copy)]
-pub struct MemoryAnswer {
-    pub number: u8,
-    pub memory: Memory,
-}
-
-#[derive(Clone, Copy)]
-pub struct GridAnswer {
-    pub number: u8,
-    pub grid: GridLayout,
-}
-
-#[derive(Clone, Copy)]
-pub struct MovedAnswer {
-    pub number: u8,
-    pub moved: Moved,
-}
-
 // A grid with the cursor that it has moved.
 #[derive(Clone, Copy)]
 pub struct Moved {
@@ -106,10 +79,4 @@ pub struct Moved {
 pub struct Saved {
     pub memory: Memory,
     pub save: bool,
-}
-
-#[derive(Clone, Copy)]
-pub struct SavedAnswer {
-    pub number: u8,
-    pub saved: Saved,
 }

@@ -2,7 +2,7 @@
 // rule gives.
 ghost use Rattle.std.specs.Prelude.{◌≡◌};
 ghost use Rattle.emath.specs.Steps.{tick};
-ghost use Rattle.emath.specs.Refusals.{numbered, answer_number, answer_value, or_zeros};
+ghost use Rattle.emath.specs.Refusals.{numbered, Says};
 ghost use Rattle.region.specs.Regions.{zero_vec};
 ghost use Rattle.region.specs.Refusals.{zero_rect, zero_pos, zero_region, region_outcome, cursor_outcome};
 ghost use Rattle.layout.specs.Rules.{align_size_within_rect, available_from_cursor_max_rect, available_rect_before_wrap, available_size, initial_cursor, justify_and_align, next_frame, next_frame_ignore_wrap, next_widget_position, next_widget_space_ignore_wrap_justify};
@@ -19,7 +19,7 @@ use region::faults::{changed_region, cursor_fault, placed_rect, region_fault};
 impl Layout {
     pub fn align_size_within_rect(self, size: Vec2, outer: Rect) -> Result<Rect, Refusal>
         ensures answer { numbered result ≡ checked_align_size_within_rect tick self size outer }
-        ensures says { (answer_number (numbered result) ≡ align_size_within_rect_number tick self size outer) × (answer_value zero_rect (numbered result) ≡ or_zeros zero_rect (answer_number (numbered result)) (align_size_within_rect tick self size outer)) }
+        ensures says { Says zero_rect (numbered result) (align_size_within_rect_number tick self size outer) (align_size_within_rect tick self size outer) }
     {
         let rect = widgets::align_size_within_rect(self, size, outer);
         placed_rect(first_of(size_fault(size), rect_fault(outer)), rect)
@@ -27,7 +27,7 @@ impl Layout {
 
     pub fn initial_cursor(self, max_rect: Rect) -> Result<Rect, Refusal>
         ensures answer { numbered result ≡ checked_initial_cursor self max_rect }
-        ensures says { (answer_number (numbered result) ≡ initial_cursor_number self max_rect) × (answer_value zero_rect (numbered result) ≡ or_zeros zero_rect (answer_number (numbered result)) (initial_cursor self.main_dir max_rect)) }
+        ensures says { Says zero_rect (numbered result) (initial_cursor_number self max_rect) (initial_cursor self.main_dir max_rect) }
     {
         let d = self.main_dir;
         let cursor = available::initial_cursor(d, max_rect);
@@ -45,7 +45,7 @@ impl Layout {
 
     pub fn available_rect_before_wrap(self, region: Region) -> Result<Rect, Refusal>
         ensures answer { numbered result ≡ checked_available_rect_before_wrap self region }
-        ensures says { (answer_number (numbered result) ≡ available_rect_before_wrap_number self region) × (answer_value zero_rect (numbered result) ≡ or_zeros zero_rect (answer_number (numbered result)) (available_rect_before_wrap self.main_dir region)) }
+        ensures says { Says zero_rect (numbered result) (available_rect_before_wrap_number self region) (available_rect_before_wrap self.main_dir region) }
     {
         let d = self.main_dir;
         let rect = available::available_rect_before_wrap(d, region);
@@ -54,7 +54,7 @@ impl Layout {
 
     pub fn available_size(self, region: Region) -> Result<Vec2, Refusal>
         ensures answer { numbered result ≡ checked_available_size self region }
-        ensures says { (answer_number (numbered result) ≡ available_size_number self region) × (answer_value zero_vec (numbered result) ≡ or_zeros zero_vec (answer_number (numbered result)) (available_size self region)) }
+        ensures says { Says zero_vec (numbered result) (available_size_number self region) (available_size self region) }
     {
         let d = self.main_dir;
         let size = available::available_size(self, region);
@@ -64,7 +64,7 @@ impl Layout {
 
     pub fn available_from_cursor_max_rect(self, cursor: Rect, max_rect: Rect) -> Result<Rect, Refusal>
         ensures answer { numbered result ≡ checked_available_from_cursor_max_rect self cursor max_rect }
-        ensures says { (answer_number (numbered result) ≡ available_from_cursor_max_rect_number self cursor max_rect) × (answer_value zero_rect (numbered result) ≡ or_zeros zero_rect (answer_number (numbered result)) (available_from_cursor_max_rect self.main_dir cursor max_rect)) }
+        ensures says { Says zero_rect (numbered result) (available_from_cursor_max_rect_number self cursor max_rect) (available_from_cursor_max_rect self.main_dir cursor max_rect) }
     {
         let d = self.main_dir;
         let rect = available::available_from_cursor_max_rect(d, cursor, max_rect);
@@ -76,7 +76,7 @@ impl Layout {
 
     pub fn next_frame(self, region: Region, child_size: Vec2, spacing: Vec2) -> Result<Rect, Refusal>
         ensures answer { numbered result ≡ checked_next_frame tick self region child_size spacing }
-        ensures says { (answer_number (numbered result) ≡ next_frame_number tick self region child_size spacing) × (answer_value zero_rect (numbered result) ≡ or_zeros zero_rect (answer_number (numbered result)) (next_frame tick self region child_size spacing)) }
+        ensures says { Says zero_rect (numbered result) (next_frame_number tick self region child_size spacing) (next_frame tick self region child_size spacing) }
     {
         let d = self.main_dir;
         let frame = frames::next_frame(self, region, child_size, spacing);
@@ -86,7 +86,7 @@ impl Layout {
 
     pub fn next_frame_ignore_wrap(self, region: Region, child_size: Vec2) -> Result<Rect, Refusal>
         ensures answer { numbered result ≡ checked_next_frame_ignore_wrap tick self region child_size }
-        ensures says { (answer_number (numbered result) ≡ next_frame_ignore_wrap_number tick self region child_size) × (answer_value zero_rect (numbered result) ≡ or_zeros zero_rect (answer_number (numbered result)) (next_frame_ignore_wrap tick self region child_size)) }
+        ensures says { Says zero_rect (numbered result) (next_frame_ignore_wrap_number tick self region child_size) (next_frame_ignore_wrap tick self region child_size) }
     {
         let d = self.main_dir;
         let frame = frames::next_frame_ignore_wrap(self, region, child_size);
@@ -98,7 +98,7 @@ impl Layout {
 
     pub fn justify_and_align(self, frame: Rect, child_size: Vec2) -> Result<Rect, Refusal>
         ensures answer { numbered result ≡ checked_justify_and_align tick self frame child_size }
-        ensures says { (answer_number (numbered result) ≡ justify_and_align_number tick self frame child_size) × (answer_value zero_rect (numbered result) ≡ or_zeros zero_rect (answer_number (numbered result)) (justify_and_align tick self frame child_size)) }
+        ensures says { Says zero_rect (numbered result) (justify_and_align_number tick self frame child_size) (justify_and_align tick self frame child_size) }
     {
         let widget = widgets::justify_and_align(self, frame, child_size);
         placed_rect(
@@ -109,7 +109,7 @@ impl Layout {
 
     pub fn next_widget_space_ignore_wrap_justify(self, region: Region, size: Vec2) -> Result<Rect, Refusal>
         ensures answer { numbered result ≡ checked_next_widget_space_ignore_wrap_justify tick self region size }
-        ensures says { (answer_number (numbered result) ≡ next_widget_space_ignore_wrap_justify_number tick self region size) × (answer_value zero_rect (numbered result) ≡ or_zeros zero_rect (answer_number (numbered result)) (next_widget_space_ignore_wrap_justify tick self region size)) }
+        ensures says { Says zero_rect (numbered result) (next_widget_space_ignore_wrap_justify_number tick self region size) (next_widget_space_ignore_wrap_justify tick self region size) }
     {
         let d = self.main_dir;
         let rect = widgets::next_widget_space_ignore_wrap_justify(self, region, size);
@@ -121,7 +121,7 @@ impl Layout {
 
     pub fn next_widget_position(self, region: Region) -> Result<Pos2, Refusal>
         ensures answer { numbered result ≡ checked_next_widget_position tick self region }
-        ensures says { (answer_number (numbered result) ≡ next_widget_position_number tick self region) × (answer_value zero_pos (numbered result) ≡ or_zeros zero_pos (answer_number (numbered result)) (next_widget_position tick self region)) }
+        ensures says { Says zero_pos (numbered result) (next_widget_position_number tick self region) (next_widget_position tick self region) }
     {
         let d = self.main_dir;
         let pos = widgets::next_widget_position(self, region);

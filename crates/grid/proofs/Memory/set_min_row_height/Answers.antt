@@ -1,7 +1,9 @@
 use Rattle.grid.specs.Operations.{checked_set_min_row_height}
 use Rattle.emath.specs.Refusals.{least}
+use Rattle.emath.proofs.Refusals.{or-number, when-number}
+use Rattle.grid.proofs.Answers.{memory-outcome}
 use Rattle.grid.proofs.Memory.set_min_row_height.Goals as goal
 
 pub returns : goal.returns
 unfolding checked_set_min_row_height least
-returns c = rw (c.memory_answer.ensures, c.or_else.ensures, c.outside_domain.ensures, c.memory_fault-2.ensures, c.lesser_number-before.ensures, c.memory_fault.ensures, c.lesser_number-rest.ensures, c.number_when.ensures, c.extent_fault.ensures, c.set_min_row_height-new.ensures)
+returns c = rw (c.answer.ensures, memory-outcome, c.or.ensures, or-number, c.outside_domain.ensures, c.memory_fault-2.ensures, c.first_of-before.ensures, c.memory_fault.ensures, c.first_of-rest.ensures, c.then_some.ensures, when-number, c.extent_fault.ensures, c.set_min_row_height-new.ensures)

@@ -9,7 +9,7 @@ loop-i-init c = (omega arith, fault-start c.args.xs.now c.args.n)
 pub loop-i-preserved : goal.loop-i-preserved
 loop-i-preserved c =
     let l = c.loop-i in
-    (omega arith, rw (c.lesser_number-fault.ensures, c.extent_fault.ensures) (fault-turn _ _ _ _ c.loop-i-test.true l.invariant.0 c.requires l.invariant.1))
+    (omega arith, rw (c.first_of-fault.ensures, c.extent_fault.ensures) (fault-turn _ _ _ _ c.loop-i-test.true l.invariant.0 c.requires l.invariant.1))
 
 pub returns : goal.returns
 returns c =

@@ -4,4 +4,4 @@ use Rattle.grid.proofs.faults.moved_fault.Goals as goal
 
 pub returns : goal.returns
 unfolding moved_fault least
-returns c = rw (c.lesser_number.ensures, c.cursor_fault.ensures, c.grid_fault.ensures)
+returns c = rw (c.first_of.ensures, c.cursor_fault.ensures, c.grid_fault.ensures)

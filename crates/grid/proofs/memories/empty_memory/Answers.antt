@@ -1,4 +1,4 @@
-use mathlib.Core.Path.{refl}
+use Rattle.std.proofs.Common.{refl}
 use Rattle.grid.specs.Entries.{zeros}
 use Rattle.grid.proofs.memories.empty_memory.Goals as goal
 

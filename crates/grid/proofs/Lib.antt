@@ -2,7 +2,7 @@
 mod Turns
 mod Counts
 pub mod Remembered
-mod Answers
+pub mod Answers
 pub mod UprightCells
 pub mod Cells
 pub mod WidgetHeights

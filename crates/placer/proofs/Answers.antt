@@ -1,13 +1,31 @@
 -- What an accepted or refused call of a placer says. Assumes nothing.
-use mathlib.Core.Path.{◌≡◌}
-use mathlib.Core.Bool.{true}
-use Prim.Native.Nat.{ℕ, suc}
-use Rattle.emath.specs.Refusals.{outside, least}
+use Rattle.std.proofs.Common.{◌≡◌, refl, true, ℕ, suc, List}
+use Rattle.std.specs.Prelude.{Option, None, Some, Float}
+use Rattle.emath.specs.Refusals.{outside, least, fault_number, answered}
+use Rattle.emath.specs.declared.Refusal.{Refusal}
+use Rattle.emath.specs.declared.Refusal.TheVariants.{Malformed}
 use Rattle.emath.proofs.Refusals.{some, or-none, outside-none, lesser-none}
 use Rattle.region.specs.Refusals.{region_fault}
 use Rattle.grid.specs.Refusals.{grid_fault, direction_fault}
-use Rattle.placer.specs.Refusals.{grid_part, placer_fault, placer_answer, changed_placer}
+use Rattle.placer.specs.Refusals.{grid_part, placer_fault, placer_answer, placer_outcome, changed_placer}
+use Rattle.placer.specs.Implementation.Lent.{placer_of, answer_of}
 use Rattle.placer.specs.declared.Placer.{Placer}
+use Rattle.placer.specs.declared.PlacerSettings.{PlacerSettings}
+use Rattle.placer.specs.declared.PassState.{PassState}
+
+-- ---- an answer, by the number of what it was made of
+pub placer-outcome : (given : Placer) (f : Option Refusal) (new : Placer) → placer_outcome given (answered f new) ≡ placer_answer (fault_number f) given new
+unfolding placer_answer
+placer-outcome given None new = refl
+placer-outcome given (Some Malformed) new = refl
+placer-outcome given (Some e) new = refl
+
+pub state-outcome : (p : PlacerSettings) (s : PassState) (f : Option Refusal) (new : PassState) (pw ph ws hs : List Float)
+    → answer_of p s (answered f new) pw ph ws hs ≡ placer_answer (fault_number f) (placer_of p s pw ph ws hs) (placer_of p new pw ph ws hs)
+unfolding placer_answer
+state-outcome p s None new pw ph ws hs = refl
+state-outcome p s (Some Malformed) new pw ph ws hs = refl
+state-outcome p s (Some e) new pw ph ws hs = refl
 
 -- ---- a refused call gives the placer back as it was given
 pub placer-refused : (n : ℕ) (given new : Placer) → (placer_answer (suc n) given new).placer ≡ given

@@ -1,23 +1,19 @@
 -- RULES 8.17: the public calls of placer.rs: the least number that applies to the arguments, or else to the answer, or else what the rule
 -- gives. A state that the caller hands in is an argument like the others. Where a call rounds, the step is 1 / 2 ^ k point.
-use Rattle.std.specs.Prelude.{ℕ, [], ◌∷◌, Float}
+use Rattle.std.specs.Prelude.{ℕ, [], ◌∷◌, Float, Result}
 use Rattle.emath.specs.Numbers as number
-use Rattle.emath.specs.Refusals.{when, least, or_else, length_fault, extent_fault, pair_fault, size_fault, rect_fault, outside}
-use Rattle.region.specs.Refusals.{rect_answer, cursor_fault, pos_answer, size_answer}
+use Rattle.emath.specs.Refusals.{when, least, or_else, length_fault, extent_fault, pair_fault, size_fault, rect_fault, outside, answer}
+use Rattle.region.specs.Refusals.{cursor_fault}
 use Rattle.region.specs.Operations.{placed_number}
-use Rattle.grid.specs.Refusals.{grid_fault, direction_fault, saved_answer}
+use Rattle.grid.specs.Refusals.{grid_fault, direction_fault, SavedAnswer, saved_answer}
 use Rattle.placer.specs.Rules.{new_placer, set_grid, save_grid, force_set_min_rect, set_cursor, align_size_within_rect, available_rect_before_wrap, available_size, next_space, next_widget_position, justify_and_align, advance_cursor, expand_to_include_rect, expand_to_include_x, expand_to_include_y, advance_after_rects, end_row, set_row_height, next_widget_space_ignore_wrap_justify, set_max_width, set_max_height, set_min_width, set_min_height}
-use Rattle.placer.specs.Refusals.{placer_fault, advance_fault, end_row_fault, zero_placer, changed_placer}
+use Rattle.placer.specs.Refusals.{placer_fault, advance_fault, end_row_fault, zero_placer, PlacerAnswer, changed_placer}
 use Rattle.emath.specs.declared.Rect.{Rect}
+use Rattle.emath.specs.declared.Pos2.{Pos2}
 use Rattle.emath.specs.declared.Vec2.{Vec2}
 use Rattle.layout.specs.declared.Layout.{Layout}
-use Rattle.region.specs.declared.RectAnswer.{RectAnswer}
-use Rattle.region.specs.declared.PosAnswer.{PosAnswer}
-use Rattle.region.specs.declared.SizeAnswer.{SizeAnswer}
 use Rattle.grid.specs.declared.GridLayout.{GridLayout}
-use Rattle.grid.specs.declared.SavedAnswer.{SavedAnswer}
 use Rattle.placer.specs.declared.Placer.{Placer}
-use Rattle.placer.specs.declared.PlacerAnswer.{PlacerAnswer}
 
 -- ---- RULES 8.17: a placer and its grid
 unfoldable pub checked_new : ℕ → Rect → Layout → PlacerAnswer
@@ -41,38 +37,38 @@ checked_set_cursor p c = changed_placer (least (placer_fault p ∷ cursor_fault 
 unfoldable pub align_size_within_rect_number : ℕ → Placer → Vec2 → Rect → ℕ
 align_size_within_rect_number k p s o = placed_number (least (placer_fault p ∷ size_fault s ∷ rect_fault o ∷ [])) (align_size_within_rect k p s o)
 
-unfoldable pub checked_align_size_within_rect : ℕ → Placer → Vec2 → Rect → RectAnswer
-checked_align_size_within_rect k p s o = rect_answer (align_size_within_rect_number k p s o) (align_size_within_rect k p s o)
+unfoldable pub checked_align_size_within_rect : ℕ → Placer → Vec2 → Rect → Result Rect ℕ
+checked_align_size_within_rect k p s o = answer (align_size_within_rect_number k p s o) (align_size_within_rect k p s o)
 
 unfoldable pub available_rect_before_wrap_number : ℕ → Placer → ℕ
 available_rect_before_wrap_number k p = placed_number (placer_fault p) (available_rect_before_wrap k p)
 
-unfoldable pub checked_available_rect_before_wrap : ℕ → Placer → RectAnswer
-checked_available_rect_before_wrap k p = rect_answer (available_rect_before_wrap_number k p) (available_rect_before_wrap k p)
+unfoldable pub checked_available_rect_before_wrap : ℕ → Placer → Result Rect ℕ
+checked_available_rect_before_wrap k p = answer (available_rect_before_wrap_number k p) (available_rect_before_wrap k p)
 
 unfoldable pub available_size_number : Placer → ℕ
 available_size_number p = or_else (placer_fault p) (outside (pair_fault (available_size p).x (available_size p).y))
 
-unfoldable pub checked_available_size : Placer → SizeAnswer
-checked_available_size p = size_answer (available_size_number p) (available_size p)
+unfoldable pub checked_available_size : Placer → Result Vec2 ℕ
+checked_available_size p = answer (available_size_number p) (available_size p)
 
 unfoldable pub next_space_number : ℕ → Placer → Vec2 → Vec2 → ℕ
 next_space_number k p s sp = placed_number (least (placer_fault p ∷ size_fault s ∷ pair_fault sp.x sp.y ∷ [])) (next_space k p s sp)
 
-unfoldable pub checked_next_space : ℕ → Placer → Vec2 → Vec2 → RectAnswer
-checked_next_space k p s sp = rect_answer (next_space_number k p s sp) (next_space k p s sp)
+unfoldable pub checked_next_space : ℕ → Placer → Vec2 → Vec2 → Result Rect ℕ
+checked_next_space k p s sp = answer (next_space_number k p s sp) (next_space k p s sp)
 
 unfoldable pub next_widget_position_number : ℕ → Placer → ℕ
 next_widget_position_number k p = or_else (placer_fault p) (outside (pair_fault (next_widget_position k p).x (next_widget_position k p).y))
 
-unfoldable pub checked_next_widget_position : ℕ → Placer → PosAnswer
-checked_next_widget_position k p = pos_answer (next_widget_position_number k p) (next_widget_position k p)
+unfoldable pub checked_next_widget_position : ℕ → Placer → Result Pos2 ℕ
+checked_next_widget_position k p = answer (next_widget_position_number k p) (next_widget_position k p)
 
 unfoldable pub justify_and_align_number : ℕ → Placer → Rect → Vec2 → ℕ
 justify_and_align_number k p r s = placed_number (least (placer_fault p ∷ rect_fault r ∷ size_fault s ∷ [])) (justify_and_align k p r s)
 
-unfoldable pub checked_justify_and_align : ℕ → Placer → Rect → Vec2 → RectAnswer
-checked_justify_and_align k p r s = rect_answer (justify_and_align_number k p r s) (justify_and_align k p r s)
+unfoldable pub checked_justify_and_align : ℕ → Placer → Rect → Vec2 → Result Rect ℕ
+checked_justify_and_align k p r s = answer (justify_and_align_number k p r s) (justify_and_align k p r s)
 
 -- ---- RULES 8.17: calls that move the cursor
 -- 7 in a grid, by 0 too (RULES 8.11)
@@ -103,8 +99,8 @@ checked_expand_to_include_y p y = changed_placer (least (placer_fault p ∷ leng
 unfoldable pub next_widget_space_ignore_wrap_justify_number : ℕ → Placer → Vec2 → ℕ
 next_widget_space_ignore_wrap_justify_number k p s = placed_number (least (placer_fault p ∷ size_fault s ∷ [])) (next_widget_space_ignore_wrap_justify k p s)
 
-unfoldable pub checked_next_widget_space_ignore_wrap_justify : ℕ → Placer → Vec2 → RectAnswer
-checked_next_widget_space_ignore_wrap_justify k p s = rect_answer (next_widget_space_ignore_wrap_justify_number k p s) (next_widget_space_ignore_wrap_justify k p s)
+unfoldable pub checked_next_widget_space_ignore_wrap_justify : ℕ → Placer → Vec2 → Result Rect ℕ
+checked_next_widget_space_ignore_wrap_justify k p s = answer (next_widget_space_ignore_wrap_justify_number k p s) (next_widget_space_ignore_wrap_justify k p s)
 
 -- ---- RULES 8.17: limits
 -- 6 for a largest width or height below zero (RULES 8.10)

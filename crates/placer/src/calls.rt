@@ -1,59 +1,45 @@
-// Cores for a pass: the records that are one call each. A placer without fault is not checked again: a new one's number is the region's.
+// Cores for a pass: the records that are one call each. A placer without fault is not checked again: a new one's fault is the region's.
 ghost use Rattle.std.specs.Prelude.{◌≡◌, true, List, [], ◌∷◌, Float};
 ghost use Rattle.emath.specs.Steps.{tick};
-ghost use Rattle.emath.specs.Refusals.{least};
+ghost use Rattle.emath.specs.Refusals.{least, fault_number};
 ghost use Rattle.emath.specs.declared.Vec2.{Vec2 as Spacing};
 ghost use Rattle.placer.specs.declared.PlacerSettings.{PlacerSettings as Settings};
-ghost use Rattle.placer.specs.declared.PassState.{PassState as Given};
 ghost use Rattle.placer.specs.Rules.{with_region, end_row};
-ghost use Rattle.placer.specs.Refusals.{placer_fault, placer_answer, changed_placer};
+ghost use Rattle.placer.specs.Refusals.{placer_fault, changed_placer};
 ghost use Rattle.placer.specs.Operations.{checked_advance_cursor, checked_end_row, checked_set_row_height, checked_set_max_width, checked_set_max_height, checked_set_min_width, checked_set_min_height};
 ghost use Rattle.placer.specs.Implementation.Lent.{placer_of, answer_of};
 
 use crate::faults::row_fault;
-use crate::{PassState, PlacerSettings, StateAnswer, limits};
-use emath::Vec2;
-use emath::faults::{
-    extent_fault, length_fault, lesser_number, number_when, or_else, outside_domain, pair_fault,
-};
-use emath::numbers::NOT_IN_GRID;
+use crate::{PassState, PlacerSettings, limits};
+use emath::faults::{answer, extent_fault, first_of, length_fault, outside_domain, pair_fault};
+use emath::{Refusal, Vec2};
 use grid::lent;
 use layout::cursors;
 use region::faults::region_fault;
 use region::{Region, regions};
 
-fn answer(number: u8, new: PassState) -> StateAnswer
-    ensures { (p : Settings) (s : Given) (pw ph ws hs : List Float) → answer_of p s result pw ph ws hs ≡ placer_answer number (placer_of p s pw ph ws hs) (placer_of p new pw ph ws hs) }
-{
-    if number == 0 {
-        StateAnswer::Changed(new)
-    } else {
-        StateAnswer::Refused(number)
-    }
-}
-
-// A call that sets the region anew; `before` is its arguments' number.
-fn settled(placer: PlacerSettings, state: PassState, before: u8, region: Region) -> StateAnswer
-    ensures { (pw ph ws hs : List Float) → placer_fault (placer_of placer state pw ph ws hs) ≡ 0 → answer_of placer state result pw ph ws hs ≡ changed_placer (least (placer_fault (placer_of placer state pw ph ws hs) ∷ before ∷ [])) (placer_of placer state pw ph ws hs) (with_region (placer_of placer state pw ph ws hs) region) }
+// A call that sets the region anew; `before` is its arguments' fault.
+fn settled(placer: PlacerSettings, state: PassState, before: Option<Refusal>, region: Region) -> Result<PassState, Refusal>
+    ensures { (pw ph ws hs : List Float) → placer_fault (placer_of placer state pw ph ws hs) ≡ 0 → answer_of placer state result pw ph ws hs ≡ changed_placer (least (placer_fault (placer_of placer state pw ph ws hs) ∷ fault_number before ∷ [])) (placer_of placer state pw ph ws hs) (with_region (placer_of placer state pw ph ws hs) region) }
 {
     let l = placer.layout;
     let d = l.main_dir;
     let mut new = state;
     new.region = region;
     answer(
-        or_else(before, outside_domain(region_fault(d, region))),
+        before.or(outside_domain(region_fault(d, region))),
         new,
     )
 }
 
-pub fn advance_cursor(placer: PlacerSettings, state: PassState, amount: f32) -> StateAnswer
+pub fn advance_cursor(placer: PlacerSettings, state: PassState, amount: f32) -> Result<PassState, Refusal>
     ensures { (pw ph ws hs : List Float) → placer_fault (placer_of placer state pw ph ws hs) ≡ 0 → answer_of placer state result pw ph ws hs ≡ checked_advance_cursor (placer_of placer state pw ph ws hs) amount }
 {
     let l = placer.layout;
     let d = l.main_dir;
-    let before = lesser_number(
+    let before = first_of(
         length_fault(amount),
-        number_when(placer.has_grid, NOT_IN_GRID),
+        placer.has_grid.then_some(Refusal::NotInGrid),
     );
     settled(
         placer,
@@ -63,7 +49,7 @@ pub fn advance_cursor(placer: PlacerSettings, state: PassState, amount: f32) -> 
     )
 }
 
-pub fn set_row_height(placer: PlacerSettings, state: PassState, height: f32) -> StateAnswer
+pub fn set_row_height(placer: PlacerSettings, state: PassState, height: f32) -> Result<PassState, Refusal>
     ensures { (pw ph ws hs : List Float) → placer_fault (placer_of placer state pw ph ws hs) ≡ 0 → answer_of placer state result pw ph ws hs ≡ checked_set_row_height (placer_of placer state pw ph ws hs) height }
 {
     settled(
@@ -74,7 +60,7 @@ pub fn set_row_height(placer: PlacerSettings, state: PassState, height: f32) -> 
     )
 }
 
-pub fn set_max_width(placer: PlacerSettings, state: PassState, width: f32) -> StateAnswer
+pub fn set_max_width(placer: PlacerSettings, state: PassState, width: f32) -> Result<PassState, Refusal>
     ensures { (pw ph ws hs : List Float) → placer_fault (placer_of placer state pw ph ws hs) ≡ 0 → answer_of placer state result pw ph ws hs ≡ checked_set_max_width tick (placer_of placer state pw ph ws hs) width }
 {
     settled(
@@ -85,7 +71,7 @@ pub fn set_max_width(placer: PlacerSettings, state: PassState, width: f32) -> St
     )
 }
 
-pub fn set_max_height(placer: PlacerSettings, state: PassState, height: f32) -> StateAnswer
+pub fn set_max_height(placer: PlacerSettings, state: PassState, height: f32) -> Result<PassState, Refusal>
     ensures { (pw ph ws hs : List Float) → placer_fault (placer_of placer state pw ph ws hs) ≡ 0 → answer_of placer state result pw ph ws hs ≡ checked_set_max_height tick (placer_of placer state pw ph ws hs) height }
 {
     settled(
@@ -96,7 +82,7 @@ pub fn set_max_height(placer: PlacerSettings, state: PassState, height: f32) -> 
     )
 }
 
-pub fn set_min_width(placer: PlacerSettings, state: PassState, width: f32) -> StateAnswer
+pub fn set_min_width(placer: PlacerSettings, state: PassState, width: f32) -> Result<PassState, Refusal>
     ensures { (pw ph ws hs : List Float) → placer_fault (placer_of placer state pw ph ws hs) ≡ 0 → answer_of placer state result pw ph ws hs ≡ checked_set_min_width tick (placer_of placer state pw ph ws hs) width }
 {
     settled(
@@ -107,7 +93,7 @@ pub fn set_min_width(placer: PlacerSettings, state: PassState, width: f32) -> St
     )
 }
 
-pub fn set_min_height(placer: PlacerSettings, state: PassState, height: f32) -> StateAnswer
+pub fn set_min_height(placer: PlacerSettings, state: PassState, height: f32) -> Result<PassState, Refusal>
     ensures { (pw ph ws hs : List Float) → placer_fault (placer_of placer state pw ph ws hs) ≡ 0 → answer_of placer state result pw ph ws hs ≡ checked_set_min_height tick (placer_of placer state pw ph ws hs) height }
 {
     settled(
@@ -119,8 +105,8 @@ pub fn set_min_height(placer: PlacerSettings, state: PassState, height: f32) -> 
 }
 
 // In a grid.
-fn row_ended(placer: PlacerSettings, state: PassState, before: u8, heights: &[f32]) -> StateAnswer
-    ensures { (pw ph ws : List Float) (sp : Spacing) → placer.has_grid ≡ true → placer_fault (placer_of placer state pw ph ws heights.now) ≡ 0 → answer_of placer state result pw ph ws heights.now ≡ changed_placer (least (placer_fault (placer_of placer state pw ph ws heights.now) ∷ before ∷ [])) (placer_of placer state pw ph ws heights.now) (end_row (placer_of placer state pw ph ws heights.now) sp) }
+fn row_ended(placer: PlacerSettings, state: PassState, before: Option<Refusal>, heights: &[f32]) -> Result<PassState, Refusal>
+    ensures { (pw ph ws : List Float) (sp : Spacing) → placer.has_grid ≡ true → placer_fault (placer_of placer state pw ph ws heights.now) ≡ 0 → answer_of placer state result pw ph ws heights.now ≡ changed_placer (least (placer_fault (placer_of placer state pw ph ws heights.now) ∷ fault_number before ∷ [])) (placer_of placer state pw ph ws heights.now) (end_row (placer_of placer state pw ph ws heights.now) sp) }
 {
     let l = placer.layout;
     let d = l.main_dir;
@@ -134,7 +120,7 @@ fn row_ended(placer: PlacerSettings, state: PassState, before: u8, heights: &[f3
         region: r,
         grid: row,
     };
-    answer(or_else(before, outside_domain(region_fault(d, r))), new)
+    answer(before.or(outside_domain(region_fault(d, r))), new)
 }
 
 pub fn end_row(
@@ -142,12 +128,12 @@ pub fn end_row(
     state: PassState,
     heights: &[f32],
     item_spacing: Vec2,
-) -> StateAnswer
+) -> Result<PassState, Refusal>
     ensures { (pw ph ws : List Float) → placer_fault (placer_of placer state pw ph ws heights.now) ≡ 0 → answer_of placer state result pw ph ws heights.now ≡ checked_end_row (placer_of placer state pw ph ws heights.now) item_spacing }
 {
     let g = state.grid;
     let row = g.row;
-    let before = lesser_number(
+    let before = first_of(
         pair_fault(item_spacing.x, item_spacing.y),
         row_fault(placer.has_grid, row),
     );

@@ -1,7 +1,8 @@
 // Cores for a pass: a placer taken apart, and the calls of a W, with the grid's arrays lent beside it. Each holds for the placer that the
-// parts and the arrays make. A placer without fault is not checked again: a new one's number is that of what has changed.
+// parts and the arrays make. A placer without fault is not checked again: a new one's fault is that of what has changed.
 ghost use Rattle.std.specs.Prelude.{◌≡◌, List, length, Float};
 ghost use Rattle.emath.specs.Implementation.NoNaN.{Numbers};
+ghost use Rattle.emath.specs.Refusals.{fault_number};
 ghost use Rattle.emath.specs.Steps.{tick};
 ghost use Rattle.emath.specs.declared.Rect.{Rect as Frame};
 ghost use Rattle.emath.specs.declared.Vec2.{Vec2 as Spacing};
@@ -9,8 +10,8 @@ ghost use Rattle.placer.specs.Rules.{next_space, justify_and_align, moved_past, 
 ghost use Rattle.placer.specs.Implementation.Lent.{placer_of, settings_of, state_of, raised_part, past_part};
 
 use crate::{PassState, Placer, PlacerSettings};
-use emath::faults::{extent_fault, lesser_number};
-use emath::{Rect, Vec2};
+use emath::faults::{extent_fault, first_of};
+use emath::{Rect, Refusal, Vec2};
 use grid::{Memory, grids, lent};
 use layout::{cursors, frames, widgets};
 use region::faults::region_fault;
@@ -147,17 +148,17 @@ fn raised_fault(
     widths: &[f32],
     heights: &[f32],
     widget_rect: Rect,
-) -> u8
-    ensures { (pw ph : List Float) → result ≡ raised_part (placer_of placer state pw ph widths.now heights.now) widget_rect }
+) -> Option<Refusal>
+    ensures { (pw ph : List Float) → fault_number result ≡ raised_part (placer_of placer state pw ph widths.now heights.now) widget_rect }
 {
     if placer.has_grid {
         let size = lent::noted_size(placer.grid, state.grid, widths, heights, widget_rect);
-        return lesser_number(extent_fault(size.x), extent_fault(size.y));
+        return first_of(extent_fault(size.x), extent_fault(size.y));
     }
-    0
+    None
 }
 
-// The number of the placer after `advance_after_rects`, which leaves this region: where the placer had none and there is room, the region's
+// The fault of the placer after `advance_after_rects`, which leaves this region: where the placer had none and there is room, the region's
 // or that of what the grid is to remember.
 pub fn past_fault(
     placer: PlacerSettings,
@@ -166,12 +167,12 @@ pub fn past_fault(
     heights: &[f32],
     region: Region,
     widget_rect: Rect,
-) -> u8
-    ensures { (pw ph : List Float) → result ≡ past_part (placer_of placer state pw ph widths.now heights.now) region widget_rect }
+) -> Option<Refusal>
+    ensures { (pw ph : List Float) → fault_number result ≡ past_part (placer_of placer state pw ph widths.now heights.now) region widget_rect }
 {
     let l = placer.layout;
     let d = l.main_dir;
-    lesser_number(
+    first_of(
         region_fault(d, region),
         raised_fault(placer, state, widths, heights, widget_rect),
     )

@@ -1,6 +1,6 @@
 // egui's placer.rs (RULES 4): a layout or a grid, with the region that it fills.
 // The unchecked rules are total functions, in `rules` and `limits`; `operations` holds the public calls, which refuse by RULES 8.17 with
-// the numbers of `faults`.
+// the faults of `faults`.
 #![tactic(auto)]
 
 use grid::{GridLayout, GridSettings, GridState};
@@ -24,13 +24,6 @@ pub struct Placer {
     pub region: Region,
 }
 
-// A call that changes a placer: its number (0: none), and the placer, the given one where it is refused.
-#[derive(Clone, Copy)]
-pub struct PlacerAnswer {
-    pub number: u8,
-    pub placer: Placer,
-}
-
 // What a pass leaves as it is of a placer, without the arrays of its grid's memories, which are lent beside it.
 #[derive(Clone, Copy)]
 pub struct PlacerSettings {
@@ -44,11 +37,4 @@ pub struct PlacerSettings {
 pub struct PassState {
     pub region: Region,
     pub grid: GridState,
-}
-
-// A call in a pass: what it carries on, or the number by which the call is refused.
-#[derive(Clone, Copy)]
-pub enum StateAnswer {
-    Changed(PassState),
-    Refused(u8),
 }

@@ -1,8 +1,8 @@
-use mathlib.Core.Path.{refl}
+use Rattle.std.proofs.Common.{refl}
 use Rattle.placer.specs.Operations.{checked_available_rect_before_wrap, available_rect_before_wrap_number}
-use Rattle.region.proofs.Answers.{rect-says}
+use Rattle.emath.proofs.Refusals.{says}
 use Rattle.placer.proofs.Placer.available_rect_before_wrap.Goals as goal
 
 pub returns : goal.returns
 unfolding checked_available_rect_before_wrap available_rect_before_wrap_number
-returns c = rw (c.placed_rect.ensures, c.available_rect_before_wrap.ensures, c.placer_fault.ensures) (record { answer = refl; says = rect-says _ _ })
+returns c = rw (c.placed_rect.ensures, c.available_rect_before_wrap.ensures, c.placer_fault.ensures) (record { answer = refl; says = says _ _ _ })

@@ -4,4 +4,4 @@ use Rattle.placer.proofs.faults.placer_fault.Goals as goal
 
 pub returns : goal.returns
 unfolding placer_fault least
-returns c = rw (c.lesser_number.ensures, c.grid_part.ensures, c.region_fault.ensures)
+returns c = rw (c.first_of.ensures, c.grid_part.ensures, c.region_fault.ensures)

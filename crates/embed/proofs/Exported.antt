@@ -11,8 +11,8 @@ use Rattle.region.specs.Steps.{WholeRect}
 use Rattle.grid.specs.Memories.{empty_memory}
 use Rattle.grid.specs.declared.Memory.{Memory}
 use Rattle.records.specs.Sheets.{checked}
-use Rattle.records.specs.declared.Checked.{Checked}
-use Rattle.records.specs.declared.Checked.TheVariants as checked-of
+use Rattle.records.specs.Sheets.{Checked}
+use Rattle.records.specs.Sheets as checked-of
 use Rattle.sheet.specs.Ticks.{in_ticks}
 use Rattle.sheet.specs.Texts.{sheet_in}
 use Rattle.sheet.specs.Slices.{edges, laid_number, laid_record, LaidOut, after_check, laid, Returns}

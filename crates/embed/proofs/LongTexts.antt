@@ -14,8 +14,8 @@ use Rattle.grid.specs.declared.Memory.{Memory}
 use Rattle.records.specs.Headings.{heading_in}
 use Rattle.records.specs.Sheets.{records, checked}
 use Rattle.records.specs.declared.Heading.{Heading}
-use Rattle.records.specs.declared.Checked.{Checked}
-use Rattle.records.specs.declared.Checked.TheVariants.{Accepted, Refused}
+use Rattle.records.specs.Sheets.{Checked}
+use Rattle.records.specs.Sheets.{Accepted, Refused}
 use Rattle.records.proofs.Prefixes.{Prefix, long-text}
 use Rattle.sheet.specs.Texts.{sheet_in}
 use Rattle.sheet.specs.Slices.{LaidOut, after_check, laid}

@@ -10,7 +10,7 @@ use Rattle.records.specs.Implementation.SizeCache.{is_step}
 use Rattle.records.specs.declared.SizeUnit.{SizeUnit}
 use Rattle.records.specs.declared.Step.{Step}
 use Rattle.records.specs.declared.Step.TheVariants.{Widget, Space, RowHeight, MaxWidth, MaxHeight, MinWidth, MinHeight, RowEnd}
-use Rattle.records.specs.declared.Record.{Record}
+use Rattle.records.specs.Records.{Record}
 use Rattle.records.proofs.Controls.{Read, read}
 use Rattle.listing.specs.Implementation.ListWriter.{mark}
 

@@ -10,8 +10,8 @@ use lib.ListN.{length, take}
 use lib.Seq.{take_all}
 use Rattle.records.specs.Headings.{heading_in}
 use Rattle.records.specs.Sheets.{records, checked}
-use Rattle.records.specs.declared.Checked.{Checked}
-use Rattle.records.specs.declared.Checked.TheVariants.{Accepted, Refused}
+use Rattle.records.specs.Sheets.{Checked}
+use Rattle.records.specs.Sheets.{Accepted, Refused}
 use Rattle.records.proofs.Prefixes.{long-text}
 use Rattle.listing.specs.Lists.{answered, list_of}
 

@@ -16,11 +16,11 @@ use Rattle.placer.specs.declared.Placer.{Placer}
 use Rattle.records.specs.Records.{heading_fits}
 use Rattle.records.specs.Headings.{has_grid_lem, heading_in, unit_fits, options_fit, heading_fault}
 use Rattle.records.specs.Sheets.{steps_left, records, after_all, wrong_from, misplaced, widget, widgets, is_empty, Fault, sheet_fault, checked, checked_record}
-use Rattle.records.specs.declared.Checked.{Checked}
-use Rattle.records.specs.declared.Checked.TheVariants.{Accepted, Refused}
+use Rattle.records.specs.Sheets.{Checked}
+use Rattle.records.specs.Sheets.{Accepted, Refused}
 use Rattle.records.specs.declared.Step.{Step}
-use Rattle.records.specs.declared.Record.{Record}
-use Rattle.records.specs.declared.Record.TheVariants as record_kind
+use Rattle.records.specs.Records.{Record}
+use Rattle.std.specs.Prelude.{None, Some}
 use Rattle.records.proofs.Prefixes.{few-records}
 use Rattle.records.proofs.Reached.{records-few}
 use Rattle.records.proofs.Checks.{record_is}
@@ -32,8 +32,8 @@ use Rattle.sheet.specs.Slices.{after_check, laid, controls}
 steps_all : (rs : List Record) → widgets rs ≡ controls (steps_of rs)
 unfolding steps_of controls widgets widget
 steps_all [] = refl
-steps_all (record_kind.Step st ∷ rs) = omega (arith, steps_all rs)
-steps_all (record_kind.Wrong ∷ rs) = omega (arith, steps_all rs)
+steps_all (Some st ∷ rs) = omega (arith, steps_all rs)
+steps_all (None ∷ rs) = omega (arith, steps_all rs)
 
 pub all-controls : (text : List ℕ) → widgets (records text) ≡ controls (sheet_in text).steps
 all-controls text = steps_all (records text)
@@ -47,8 +47,8 @@ grid-there text = refl
 wrong-few : (k : ℕ) (rs : List Record) → wrong_from k rs ≤ k + length rs
 unfolding wrong_from
 wrong-few k [] = omega arith
-wrong-few k (record_kind.Step st ∷ rs) = omega (arith, wrong-few (k + 1) rs)
-wrong-few k (record_kind.Wrong ∷ rs) = omega arith
+wrong-few k (Some st ∷ rs) = omega (arith, wrong-few (k + 1) rs)
+wrong-few k (None ∷ rs) = omega arith
 
 heading-few : (s : List ℕ) → heading_fault s ≤ 3
 unfolding heading_fault
@@ -85,8 +85,8 @@ checked-few text room n at e = let z : (sheet_fault text room).at ≡ at = sym (
 steps-few : (rs : List Record) → length (steps_of rs) ≤ length rs
 unfolding steps_of
 steps-few [] = omega arith
-steps-few (record_kind.Step st ∷ rs) = omega (arith, steps-few rs)
-steps-few (record_kind.Wrong ∷ rs) = omega (arith, steps-few rs)
+steps-few (Some st ∷ rs) = omega (arith, steps-few rs)
+steps-few (None ∷ rs) = omega (arith, steps-few rs)
 
 followed-few : (n : ℕ) (a : Stepped) (later : Ran) (m : ℕ) → n ≤ m → later.at ≤ m → (followed n a later).at ≤ m
 unfolding followed

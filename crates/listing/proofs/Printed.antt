@@ -17,8 +17,8 @@ use Rattle.records.specs.Headings.{has_grid_lem, heading_in}
 use Rattle.records.specs.Sheets.{records, checked}
 use Rattle.records.proofs.Prefixes.{few-records}
 use Rattle.records.proofs.Checks.{clear, some_number}
-use Rattle.records.specs.declared.Checked.{Checked}
-use Rattle.records.specs.declared.Checked.TheVariants as checked-of
+use Rattle.records.specs.Sheets.{Checked}
+use Rattle.records.specs.Sheets as checked-of
 use Rattle.sheet.specs.Pass.{Outcome, pass}
 use Rattle.sheet.specs.Passes.{passes}
 use Rattle.sheet.specs.Ticks.{in_ticks}

@@ -16,8 +16,8 @@ use Rattle.records.specs.Headings.{has_grid_lem}
 use Rattle.records.specs.Sheets.{checked}
 use Rattle.records.specs.Implementation.SizeCache.{cached_by}
 use Rattle.records.proofs.Checks.{some_number}
-use Rattle.records.specs.declared.Checked.{Checked}
-use Rattle.records.specs.declared.Checked.TheVariants as checked-of
+use Rattle.records.specs.Sheets.{Checked}
+use Rattle.records.specs.Sheets as checked-of
 use Rattle.sheet.specs.Pass.{Outcome, refused_at, pass}
 use Rattle.sheet.specs.Passes.{passes}
 use Rattle.sheet.specs.Texts.{sheet_in}

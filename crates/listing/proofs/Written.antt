@@ -23,8 +23,8 @@ use Rattle.records.specs.Records.{record_of, rest}
 use Rattle.records.specs.Headings.{heading_in}
 use Rattle.records.specs.Sheets.{records_from, steps_left, records, wrong_from, widget, widgets}
 use Rattle.records.specs.Implementation.SizeCache.{is_step}
-use Rattle.records.specs.declared.Record.{Record}
-use Rattle.records.specs.declared.Record.TheVariants as record_kind
+use Rattle.records.specs.Records.{Record}
+use Rattle.std.specs.Prelude.{None, Some}
 use Rattle.sheet.specs.Pass.{Cell}
 use Rattle.pass_laws.specs.WholeCells.{WholeCells, more}
 use Rattle.sheet.specs.Ticks.{ticks, in_ticks}
@@ -126,8 +126,8 @@ no_lines n (r ∷ rs) = refl
 
 here-step : (n : ℕ) (r : Record) (rs : List Record) → 0 < n → wrong_from n (r ∷ rs) ≡ 0 → (is_step r ≡ true) × (wrong_from (n + 1) rs ≡ 0)
 unfolding wrong_from is_step
-here-step n (record_kind.Step st) rs f h = (refl, h)
-here-step n record_kind.Wrong rs f h = absurd (omega (arith, h))
+here-step n (Some st) rs f h = (refl, h)
+here-step n None rs f h = absurd (omega (arith, h))
 
 data Few : ℕ → Type 0 where
   none_here : Few 0

@@ -7,9 +7,9 @@ use Rattle.grid.specs.declared.Memory.{Memory}
 use Rattle.records.specs.Headings.{heading_in}
 use Rattle.records.specs.Sheets.{records, widget, checked}
 use Rattle.records.specs.declared.Heading.{Heading}
-use Rattle.records.specs.declared.Record.{Record}
-use Rattle.records.specs.declared.Checked.{Checked}
-use Rattle.records.specs.declared.Checked.TheVariants.{Accepted, Refused}
+use Rattle.records.specs.Records.{Record}
+use Rattle.records.specs.Sheets.{Checked}
+use Rattle.records.specs.Sheets.{Accepted, Refused}
 use Rattle.text.specs.Letters as letters
 use Rattle.text.specs.Lines.{line}
 use Rattle.sheet.specs.Pass.{Sheet, Cell, Outcome}

@@ -23,8 +23,8 @@ use Rattle.records.specs.Headings.{grid_at, has_grid_lem, no_options, heading_in
 use Rattle.records.specs.Sheets.{records_from, steps_left}
 use Rattle.records.specs.declared.Step.{Step}
 use Rattle.records.specs.declared.Step.TheVariants.{Widget, Space, RowHeight, MaxWidth, MaxHeight, MinWidth, MinHeight, RowEnd}
-use Rattle.records.specs.declared.Record.{Record}
-use Rattle.records.specs.declared.Record.TheVariants as record_kind
+use Rattle.records.specs.Records.{Record}
+use Rattle.std.specs.Prelude.{None, Some}
 use Rattle.pass_laws.specs.WholeSheets.{WholeSteps, WholeSheet}
 use Rattle.sheet.specs.Texts.{steps_of, sheet_in}
 use Rattle.sheet.proofs.Plates.{zero-edge}
@@ -58,8 +58,8 @@ rect-whole s = record { left = (pair-whole s 6).x; top = (pair-whole s 6).y; rig
 
 -- ---- a record
 pub data WholeRecord : Record → Type 0 where
-  step : {st : Step} → WholeSteps 5 (st ∷ []) → WholeRecord (record_kind.Step st)
-  wrong : WholeRecord record_kind.Wrong
+  step : {st : Step} → WholeSteps 5 (st ∷ []) → WholeRecord (Some st)
+  wrong : WholeRecord None
 
 either : (b : Bool) {x y : Record} → WholeRecord x → WholeRecord y → WholeRecord (cond b x y)
 either true p q = p

@@ -15,8 +15,8 @@ use Rattle.region.specs.Refusals.{zero_rect}
 use Rattle.region.specs.Steps.{WholeRect}
 use Rattle.grid.specs.declared.Memory.{Memory}
 use Rattle.records.specs.Sheets.{checked}
-use Rattle.records.specs.declared.Checked.{Checked}
-use Rattle.records.specs.declared.Checked.TheVariants as checked-of
+use Rattle.records.specs.Sheets.{Checked}
+use Rattle.records.specs.Sheets as checked-of
 use Rattle.records.proofs.Checks.{some_number}
 use Rattle.sheet.specs.declared.Laid.TheVariants.{Accepted}
 use Rattle.sheet.specs.declared.Passed.{Passed}

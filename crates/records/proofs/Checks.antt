@@ -11,8 +11,8 @@ use Rattle.emath.specs.Numbers as number
 use Rattle.emath.proofs.Refusals.{or-none}
 use Rattle.records.specs.Headings.{heading_in, heading_fault}
 use Rattle.records.specs.Sheets.{records, after_all, wrong_from, misplaced, widgets, is_empty, Fault, sheet_fault, checked, checked_number, checked_record}
-use Rattle.records.specs.declared.Checked.{Checked}
-use Rattle.records.specs.declared.Checked.TheVariants.{Accepted, Refused}
+use Rattle.records.specs.Sheets.{Checked}
+use Rattle.records.specs.Sheets.{Accepted, Refused}
 
 -- ---- the number and the record
 module _ (text : List ℕ) (room : ℕ) where

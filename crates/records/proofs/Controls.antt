@@ -19,8 +19,8 @@ use Rattle.records.specs.Records.{step_record, widget_record, single_record, rec
 use Rattle.records.specs.declared.SizeUnit.{SizeUnit}
 use Rattle.records.specs.declared.Step.{Step}
 use Rattle.records.specs.declared.Step.TheVariants.{Widget, Space, RowHeight, MaxWidth, MaxHeight, MinWidth, MinHeight, RowEnd}
-use Rattle.records.specs.declared.Record.{Record}
-use Rattle.records.specs.declared.Record.TheVariants as record_kind
+use Rattle.records.specs.Records.{Record}
+use Rattle.std.specs.Prelude.{None, Some}
 use Rattle.records.specs.Controls.{only_controls, number_in, size_of, Measures}
 use Rattle.text.proofs.RoundTrip.{at-is-text}
 use Rattle.records.proofs.Hundredths.{in-steps-few}
@@ -36,10 +36,10 @@ number-few s at = go (field_at 2097152 s at) refl
 
 -- ---- what the record at the front of a text can be: with a W's letter or without
 pub data Read (u : SizeUnit) (s : List ℕ) : Bool → Record → Type 0 where
-  widget : {w h : Float} → Measures tick u (size_of s).width w → Measures tick u (size_of s).height h → Read u s true (record_kind.Step (Widget w h))
-  row_end : Read u s false (record_kind.Step RowEnd)
-  other : {st : Step} → ((rest : List Step) → only_controls (st ∷ rest) ≡ false) → Read u s false (record_kind.Step st)
-  wrong : {w : Bool} → Read u s w record_kind.Wrong
+  widget : {w h : Float} → Measures tick u (size_of s).width w → Measures tick u (size_of s).height h → Read u s true (Some (Widget w h))
+  row_end : Read u s false (Some RowEnd)
+  other : {st : Step} → ((rest : List Step) → only_controls (st ∷ rest) ≡ false) → Read u s false (Some st)
+  wrong : {w : Bool} → Read u s w None
 
 either : {u : SizeUnit} {s : List ℕ} {w : Bool} (b : Bool) {x y : Record} → Read u s w x → Read u s w y → Read u s w (cond b x y)
 either true p q = p
@@ -61,13 +61,13 @@ unfolding widget_record step_record size_of
 widget-read u s = go (is_length (size_in u s 0)) (is_length (size_in u s 1)) (ends s 2) refl refl
   where
     go : (a b c : Bool) → is_length (size_in u s 0) ≡ a → is_length (size_in u s 1) ≡ b
-        → Read u s true (cond (a && b && c) (record_kind.Step (Widget (length_value (size_in u s 0)) (length_value (size_in u s 1)))) record_kind.Wrong)
+        → Read u s true (cond (a && b && c) (Some (Widget (length_value (size_in u s 0)) (length_value (size_in u s 1)))) None)
     go true true true i j = widget (measures u s 0 i) (measures u s 1 j)
     go true true false i j = wrong
     go true false c i j = wrong
     go false b c i j = wrong
 
-step-read : {u : SizeUnit} (s : List ℕ) (n : ℕ) (b : Bool) (st : Step) → Read u s false (record_kind.Step st) → Read u s false (step_record s n b st)
+step-read : {u : SizeUnit} (s : List ℕ) (n : ℕ) (b : Bool) (st : Step) → Read u s false (Some st) → Read u s false (step_record s n b st)
 unfolding step_record
 step-read s n b st r = either (b && ends s n) r wrong
 

@@ -10,8 +10,8 @@ use lib.ListN.{length, get_or, take, drop, length-drop, drop_of_length-le}
 use lib.Seq.{get_or-drop, drop-drop, drop-nil, take_all}
 use Rattle.text.specs.Letters as letters
 use Rattle.records.specs.Parts.{letter}
-use Rattle.records.specs.declared.Record.{Record}
-use Rattle.records.specs.declared.Record.TheVariants.{Wrong}
+use Rattle.records.specs.Records.{Record}
+use Rattle.std.specs.Prelude.{None as Wrong}
 use Rattle.records.specs.Records.{record_of, record_at, single_record, field_count, size, rest, next_at}
 use Rattle.records.specs.declared.SizeUnit.{SizeUnit}
 use Rattle.records.specs.Headings.{stands, past, unit_at, grid_at, heading_in}

@@ -17,7 +17,7 @@ use Rattle.records.specs.Parts.{letter, ends}
 use Rattle.records.specs.Records.{options_in, grid_fits, record_of, field_count, size, rest, next_at}
 use Rattle.records.specs.Headings.{stands, one, past, unit_at, grid_at, steps_at, has_unit, unit_in, has_grid_lem, heading_in, unit_fits, options_fit, heading_fault}
 use Rattle.records.specs.Sheets.{records_from, steps_left, records, after, after_all, misplaced, sheet_fault, checked}
-use Rattle.records.specs.declared.Record.{Record}
+use Rattle.records.specs.Records.{Record}
 use Rattle.records.proofs.Reached.{not-empty}
 use Rattle.records.proofs.RecordPrefixes.{drop-take, same_ends, same-grid-fits, same-heading-fits, same_layout, same-letter, same-options, same-pair, same-record, same-rect, small_size}
 

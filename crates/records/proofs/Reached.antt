@@ -12,17 +12,27 @@ use lib.ListN.{length, drop, length-drop, drop_of_length-le}
 use lib.Seq.{drop-nil}
 use Rattle.emath.specs.Numbers as number
 use Rattle.emath.specs.Refusals.{or_else}
-use Rattle.records.specs.declared.Record.{Record}
-use Rattle.records.specs.declared.Record.TheVariants.{Step as Steps, Wrong}
+use Rattle.records.specs.Records.{Record}
+use Rattle.std.specs.Prelude.{Some as Steps, None as Wrong}
 use Rattle.records.specs.declared.Heading.{Heading}
 use Rattle.records.specs.declared.SizeUnit.{SizeUnit}
-use Rattle.records.specs.declared.Checked.{Checked}
-use Rattle.records.specs.declared.Checked.TheVariants.{Accepted, Refused}
+use Rattle.records.specs.Sheets.{Checked}
+use Rattle.records.specs.Sheets.{Accepted, Refused}
 use Rattle.records.specs.Records.{record_of, record_at, size, rest, next_at}
 use Rattle.records.specs.Headings.{heading_in, heading_fault}
 use Rattle.records.specs.Sheets.{records_from, after, steps_left, records, after_all, wrong_from, misplaced, widget, widgets, is_empty, Fault, sheet_fault, checked}
-use Rattle.records.specs.Implementation.SizeCache.{is_step}
+use Rattle.std.specs.Bool.{then_some}
+use Rattle.records.specs.declared.Step.{Step}
 use Rattle.records.proofs.Places.{next-is-rest}
+
+-- whether a record is a step
+unfoldable pub is_step : Record → Bool
+is_step (Steps st) = true
+is_step Wrong = false
+
+pub then-some : (b : Bool) (st : Step) → then_some b st ≡ cond b (Steps st) Wrong
+then-some true st = refl
+then-some false st = refl
 
 -- from `at` on: the first fault there is the sheet's first after its heading, and the W and records there, with those read, are all of them
 pub record Reached (s : List ℕ) (at k w left : ℕ) : Type 0 where

@@ -13,18 +13,18 @@ use lib.Ieee.{Float, nan}
 use Rattle.records.specs.declared.Heading.{Heading as HeadingOf}
 use Rattle.records.specs.declared.Step.{Step}
 use Rattle.records.specs.declared.Step.TheVariants.{Widget, Space, RowHeight, MaxWidth, MaxHeight, MinWidth, MinHeight, RowEnd}
-use Rattle.records.specs.declared.Record.{Record}
-use Rattle.records.specs.declared.Record.TheVariants.{Step as Steps, Wrong}
-use Rattle.records.specs.declared.Checked.TheVariants.{Accepted}
+use Rattle.records.specs.Records.{Record}
+use Rattle.std.specs.Prelude.{Some as Steps, None as Wrong}
+use Rattle.records.specs.Sheets.{Accepted}
 use Rattle.records.specs.declared.SizeUnit.{SizeUnit}
 use Rattle.records.specs.Parts.{letter, ends, size_in, is_length, length_value}
 use Rattle.records.specs.Records.{step_record, widget_record, record_of, record_at, size, rest, next_at}
 use Rattle.text.specs.Letters as letters
 use Rattle.records.specs.Headings.{heading_in, heading_fault}
 use Rattle.records.specs.Sheets.{records_from, steps_left, records, wrong_from, checked}
-use Rattle.records.specs.Implementation.SizeCache.{stored_step, stored, cached_from, cached_by, IsCached, AreCached, CachedIn, is_step}
+use Rattle.records.specs.Implementation.SizeCache.{stored_step, cached_from, cached_by, IsCached, AreCached, CachedIn}
 use Rattle.records.proofs.Places.{next-is-rest}
-use Rattle.records.proofs.Reached.{records-few, records-step, step-on, stops, none_left, no_more}
+use Rattle.records.proofs.Reached.{is_step, records-few, records-step, step-on, stops, none_left, no_more}
 use Rattle.records.proofs.Prefixes.{few-records}
 use Rattle.records.proofs.Checks.{clear}
 
@@ -39,6 +39,11 @@ step-length ss n (MaxHeight x) = refl
 step-length ss n (MinWidth x) = refl
 step-length ss n (MinHeight x) = refl
 step-length ss n RowEnd = refl
+
+-- of a record that may be no step
+unfoldable pub stored : List Float → ℕ → Record → List Float
+stored ss n (Steps st) = stored_step ss n st
+stored ss n Wrong = ss
 
 pub stored-length : (ss : List Float) (n : ℕ) (r : Record) → length (stored ss n r) ≡ length ss
 unfolding stored

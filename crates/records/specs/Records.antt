@@ -1,5 +1,5 @@
 -- RULES 6.5, 6.6, 6.8 to 6.10, 6.24: what each letter's record says, and how long it is. Fields count from 0 here, from 1 in RULES.
-use Rattle.std.specs.Prelude.{ℕ, ◌+◌, ◌*◌, min, List, Bool, true, false, ◌&&◌, cond, pos, length, drop, eqb, Float}
+use Rattle.std.specs.Prelude.{Option, ℕ, ◌+◌, ◌*◌, min, List, Bool, true, false, ◌&&◌, cond, pos, length, drop, eqb, Float}
 use Rattle.std.specs.Int.Signed.{le_z}
 use Rattle.emath.specs.declared.Align.{Align}
 use Rattle.emath.specs.declared.Align.TheVariants.{Min, Center, Max}
@@ -14,8 +14,7 @@ use Rattle.text.specs.declared.Field.TheVariants.{Blank, Number, Wrong as WrongF
 use Rattle.records.specs.declared.GridOptions.{GridOptions}
 use Rattle.records.specs.declared.Step.{Step}
 use Rattle.records.specs.declared.Step.TheVariants.{Widget, Space, RowHeight, MaxWidth, MaxHeight, MinWidth, MinHeight, RowEnd}
-use Rattle.records.specs.declared.Record.{Record}
-use Rattle.records.specs.declared.Record.TheVariants.{Step as Steps, Wrong}
+use Rattle.std.specs.Prelude.{Some as Steps, None as Wrong}
 use Rattle.records.specs.declared.SizeUnit.{SizeUnit}
 use Rattle.records.specs.Parts.{letter, ends, length_in, is_length, length_value, size_in, is_maximum, maximum_value, count_in, is_count, count_value}
 
@@ -86,6 +85,10 @@ unfoldable pub grid_fits : List ℕ → Bool
 grid_fits s = pair_fits s 0 && maxima_fit s && is_columns (count_in s 4 32) && is_count (count_in s 5 127) (pos 0) && ends s 6
 
 -- ---- RULES 6.10: the steps
+-- what stands where a step may stand: the step, or none where the record is malformed
+abbrev pub Record : Type 0
+Record = Option Step
+
 -- a record of n fields is this step where the fields fit and an LF stands after them
 unfoldable pub step_record : List ℕ → ℕ → Bool → Step → Record
 step_record s n fits step = cond (fits && ends s n) (Steps step) Wrong

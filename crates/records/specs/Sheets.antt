@@ -1,14 +1,14 @@
 -- RULES 6.11, 8.3, 8.6 to 8.8: a text as records, and refusals 1 to 3, which are looked for over all of it before anything is laid out.
-use Rattle.std.specs.Prelude.{ℕ, zero, suc, ◌+◌, ◌-◌, ◌*◌, List, [], ◌∷◌, Bool, true, false, cond, length, drop, ltb, eqb}
+use Rattle.std.specs.Prelude.{ℕ, zero, suc, ◌+◌, ◌-◌, ◌*◌, List, [], ◌∷◌, Bool, true, false, cond, length, drop, ltb, eqb, Result, Ok, Err}
 use Rattle.emath.specs.Numbers as number
-use Rattle.emath.specs.Refusals.{or_else}
+use Rattle.emath.specs.Refusals.{or_else, number_of}
 use Rattle.records.specs.declared.Step.{Step}
 use Rattle.records.specs.declared.Step.TheVariants.{Widget, Space, RowHeight, MaxWidth, MaxHeight, MinWidth, MinHeight, RowEnd}
-use Rattle.records.specs.declared.Record.{Record}
-use Rattle.records.specs.declared.Record.TheVariants.{Step as Steps, Wrong}
+use Rattle.records.specs.Records.{Record}
+use Rattle.std.specs.Prelude.{Some as Steps, None as Wrong}
 use Rattle.records.specs.declared.SizeUnit.{SizeUnit}
-use Rattle.records.specs.declared.Checked.{Checked}
-use Rattle.records.specs.declared.Checked.TheVariants.{Accepted, Refused}
+use Rattle.records.specs.declared.Counts.{Counts}
+use Rattle.records.specs.declared.SheetRefusal.{SheetRefusal}
 use Rattle.records.specs.Records.{record_of, rest}
 use Rattle.records.specs.Headings.{heading_in, heading_fault}
 
@@ -88,7 +88,11 @@ sheet_fault s room =
     (record { number = number.too_long; at = most_records + 1 }))
     (record { number = number.malformed; at = misplaced s })
 
--- the answer: how many records and how many W, or the fault
+-- the answer: how many records and how many W, or the fault's number and record
+pub data Checked : Type 0 where
+  Accepted : ℕ → ℕ → Checked
+  Refused : ℕ → ℕ → Checked
+
 unfoldable pub checked : List ℕ → ℕ → Checked
 checked s room =
     cond (eqb (sheet_fault s room).number 0)
@@ -103,3 +107,8 @@ checked_number (Refused n at) = n
 unfoldable pub checked_record : Checked → ℕ
 checked_record (Accepted k w) = 0
 checked_record (Refused n at) = at
+
+-- RULES 8.1: what the check answers, with the number for the refusal
+abbrev pub checked_outcome : Result Counts SheetRefusal → Checked
+checked_outcome (Ok c) = Accepted c.records c.widgets
+checked_outcome (Err e) = Refused (number_of e.refusal) e.record

@@ -1,7 +1,7 @@
 // A sheet's records (RULES 6.5 to 6.11, 6.24): what the text of each says, and the checks over a whole sheet (RULES 8.6 to 8.8).
 #![tactic(auto)]
 
-use emath::{Rect, Vec2};
+use emath::{Rect, Refusal, Vec2};
 use layout::Layout;
 
 mod grids;
@@ -69,13 +69,6 @@ pub enum Step {
     RowEnd,
 }
 
-// What stands where a step may stand.
-#[derive(Clone, Copy)]
-pub enum Record {
-    Step(Step),
-    Wrong,
-}
-
 // A field that holds a length, in points.
 #[derive(Clone, Copy)]
 pub enum Length {
@@ -84,10 +77,16 @@ pub enum Length {
     Wrong,
 }
 
+// Of an accepted sheet: how many records, and how many of them are W.
 #[derive(Clone, Copy)]
-pub enum Checked {
-    // How many records, and how many of them are W.
-    Accepted(usize, usize),
-    // The refusal's number (RULES 8.1), and the record, from 1.
-    Refused(u8, usize),
+pub struct Counts {
+    pub records: usize,
+    pub widgets: usize,
+}
+
+// Why a sheet is refused, and at which record, from 1.
+#[derive(Clone, Copy)]
+pub struct SheetRefusal {
+    pub refusal: Refusal,
+    pub record: usize,
 }

@@ -3,21 +3,18 @@ ghost use Rattle.std.specs.Prelude.{◌≡◌, ◌≤◌};
 ghost use Rattle.records.specs.Records.{step_record, widget_record, single_record, record_of, record_at, field_count, next_at};
 
 use crate::parts::{byte, ends, is_length, length, length_value, size};
-use crate::{Record, SizeUnit, Step};
+use crate::{SizeUnit, Step};
 
-// A record of n fields, which fit or don't: this step where they do and an LF stands after them.
-fn step_record(text: &[u8], n: usize, fits: bool, step: Step) -> Record
+// A record of n fields, which fit or don't: this step where they do and an LF stands after them, and else none.
+fn step_record(text: &[u8], n: usize, fits: bool, step: Step) -> Option<Step>
     requires { n ≤ 12 }
     ensures { result ≡ step_record text.now n fits step }
 {
-    if fits & ends(text, n) {
-        return Record::Step(step);
-    }
-    Record::Wrong
+    (fits & ends(text, n)).then_some(step)
 }
 
 // Its size is in the sheet's unit.
-fn widget(text: &[u8], unit: SizeUnit) -> Record
+fn widget(text: &[u8], unit: SizeUnit) -> Option<Step>
     ensures { result ≡ widget_record unit text.now }
 {
     let width = size(text, unit, 0);
@@ -32,7 +29,7 @@ fn widget(text: &[u8], unit: SizeUnit) -> Record
 }
 
 // A letter with one length.
-fn single(text: &[u8], letter: u8) -> Record
+fn single(text: &[u8], letter: u8) -> Option<Step>
     ensures { result ≡ single_record text.now letter }
 {
     let amount = length(text, 0);
@@ -45,12 +42,12 @@ fn single(text: &[u8], letter: u8) -> Record
         b'K' => step_record(text, 1, fits, Step::MaxHeight(x)),
         b'N' => step_record(text, 1, fits, Step::MinWidth(x)),
         b'T' => step_record(text, 1, fits, Step::MinHeight(x)),
-        _ => Record::Wrong,
+        _ => None,
     }
 }
 
-// The record at the front of the text.
-pub fn first_record(text: &[u8], unit: SizeUnit) -> Record
+// The step at the front of the text; none where the record is malformed.
+pub fn first_record(text: &[u8], unit: SizeUnit) -> Option<Step>
     ensures { result ≡ record_of unit text.now }
 {
     let letter = byte(text, 0);
@@ -61,13 +58,13 @@ pub fn first_record(text: &[u8], unit: SizeUnit) -> Record
     }
 }
 
-// The record at a place; wrong beyond the text's end.
-pub fn read_record(text: &[u8], unit: SizeUnit, at: usize) -> Record
+// The step at a place; none beyond the text's end.
+pub fn read_record(text: &[u8], unit: SizeUnit, at: usize) -> Option<Step>
     ensures { result ≡ record_at unit text.now at }
 {
     let n = text.len();
     if n < at {
-        return Record::Wrong;
+        return None;
     }
     first_record(&text[at..n], unit)
 }

@@ -1,24 +1,15 @@
 // The check of a whole sheet: refusals 1 to 3 (RULES 8.6 to 8.8).
 ghost use Rattle.std.specs.Prelude.{◌≡◌, cond, ◌*◌, ◌≤◌, ltb, length};
 ghost use Rattle.emath.specs.Numbers as number;
-ghost use Rattle.records.specs.Sheets.{widget_step, widget as widget_of, sheet_fault, checked, checked_number, checked_record};
-ghost use Rattle.records.specs.declared.Checked.TheVariants.{Accepted, Refused};
-ghost use Rattle.records.specs.Implementation.SizeCache.{is_step, cached_by};
+ghost use Rattle.emath.specs.Refusals.{number_of};
+ghost use Rattle.records.specs.Sheets.{widget_step, sheet_fault, checked, checked_number, checked_record, checked_outcome, Accepted, Refused};
+ghost use Rattle.records.specs.Implementation.SizeCache.{cached_by};
 
 use crate::headings::{heading_fault, read_heading};
 use crate::records::{next_record, read_record};
 use crate::size_cache::store;
-use crate::{CACHE_LEN, Checked, MAX_RECORDS, Record, Step};
-use emath::numbers::{MALFORMED, NO_ROOM, TOO_LONG};
-
-fn is_step(r: Record) -> bool
-    ensures { result ≡ is_step r }
-{
-    match r {
-        Record::Step(_) => true,
-        Record::Wrong => false,
-    }
-}
+use crate::{CACHE_LEN, Counts, MAX_RECORDS, SheetRefusal, Step};
+use emath::Refusal;
 
 // 1 for a W.
 fn widget_step(st: Step) -> usize
@@ -36,34 +27,37 @@ fn widget_step(st: Step) -> usize
     }
 }
 
-fn widget(r: Record) -> usize
-    ensures { (result ≡ widget_of r) × (result ≤ 1) }
+fn refused(refusal: Refusal, at: usize) -> Result<Counts, SheetRefusal>
+    ensures { checked_outcome result ≡ Refused (number_of refusal) at }
 {
-    match r {
-        Record::Step(st) => widget_step(st),
-        Record::Wrong => 0,
-    }
+    Err(SheetRefusal {
+        refusal,
+        record: at,
+    })
 }
 
 // The text has ended after k records, w of them W.
-fn ended(k: usize, w: usize, room: usize) -> Checked
+fn ended(k: usize, w: usize, room: usize) -> Result<Counts, SheetRefusal>
     requires { w ≤ 512 }
-    ensures { result ≡ cond (ltb room (8 * w)) (Refused number.no_room 1) (Accepted k w) }
+    ensures { checked_outcome result ≡ cond (ltb room (8 * w)) (Refused number.no_room 1) (Accepted k w) }
 {
     if room < 8 * w {
-        return Checked::Refused(NO_ROOM, 1);
+        return refused(Refusal::NoRoom, 1);
     }
-    Checked::Accepted(k, w)
+    Ok(Counts {
+        records: k,
+        widgets: w,
+    })
 }
 
 // Which of 1 to 3 applies, with a slice of `room` places; or how many records and W there are. The size of each W read goes to the cache.
-pub fn check_caching(text: &[u8], room: usize, sizes: &mut [f32]) -> Checked
+pub fn check_caching(text: &[u8], room: usize, sizes: &mut [f32]) -> Result<Counts, SheetRefusal>
     requires { length sizes.old ≡ 1026 }
-    ensures { (result ≡ checked text.now room) × (sizes.new ≡ cached_by text.now sizes.old) }
+    ensures { (checked_outcome result ≡ checked text.now room) × (sizes.new ≡ cached_by text.now sizes.old) }
 {
     let fault = heading_fault(text);
     if fault != 0 {
-        return Checked::Refused(MALFORMED, fault);
+        return refused(Refusal::Malformed, fault);
     }
     let h = read_heading(text);
     let unit = h.unit;
@@ -76,25 +70,23 @@ pub fn check_caching(text: &[u8], room: usize, sizes: &mut [f32]) -> Checked
         if n <= at {
             return ended(k, w, room);
         }
-        let r = read_record(text, unit, at);
-        if is_step(r) {
-            store(sizes, k + 1, r);
-            w += widget(r);
-            at = next_record(text, at);
-            k += 1;
-            left -= 1;
-        } else {
-            return Checked::Refused(MALFORMED, k + 1);
-        }
+        let Some(st) = read_record(text, unit, at) else {
+            return refused(Refusal::Malformed, k + 1);
+        };
+        store(sizes, k + 1, st);
+        w += widget_step(st);
+        at = next_record(text, at);
+        k += 1;
+        left -= 1;
     }
     if at < n {
-        return Checked::Refused(TOO_LONG, MAX_RECORDS + 1);
+        return refused(Refusal::TooLong, MAX_RECORDS + 1);
     }
     ended(k, w, room)
 }
 
-pub fn check(text: &[u8], room: usize) -> Checked
-    ensures { (result ≡ checked text.now room) × (checked_number result ≡ (sheet_fault text.now room).number) × (checked_record result ≡ (sheet_fault text.now room).at) }
+pub fn check(text: &[u8], room: usize) -> Result<Counts, SheetRefusal>
+    ensures { (checked_outcome result ≡ checked text.now room) × (checked_number (checked_outcome result) ≡ (sheet_fault text.now room).number) × (checked_record (checked_outcome result) ≡ (sheet_fault text.now room).at) }
 {
     let mut sizes: [f32; CACHE_LEN] = [0.0; CACHE_LEN];
     check_caching(text, room, &mut sizes)

@@ -1,16 +1,17 @@
 // A cache of W sizes by the record's number: filled when a sheet is checked, so that the fields of a W are read once.
 ghost use Rattle.std.specs.Prelude.{◌≡◌, ◌+◌, ◌≤◌, length, drop};
 ghost use Rattle.records.specs.Records.{record_at};
-ghost use Rattle.records.specs.Implementation.SizeCache.{stored_step, stored, IsCached};
+ghost use Rattle.records.specs.Implementation.SizeCache.{stored_step, IsCached};
 
 use crate::parts::byte;
 use crate::records::read_record;
-use crate::{Record, SizeUnit, Step};
+use crate::{SizeUnit, Step};
 
 // Heights stand after all widths: side by side, one load would read both and wait, since store forwarding does not join two stores.
 const HEIGHTS: usize = 513;
 
-fn store_step(sizes: &mut [f32], n: usize, st: Step)
+// Stores the size of record n, where it is a W.
+pub fn store(sizes: &mut [f32], n: usize, st: Step)
     requires { (n ≤ 512) × (length sizes.old ≡ 1026) }
     ensures { sizes.new ≡ stored_step sizes.old n st }
 {
@@ -29,19 +30,8 @@ fn store_step(sizes: &mut [f32], n: usize, st: Step)
     }
 }
 
-// Stores the size of record n, where it is a W.
-pub fn store(sizes: &mut [f32], n: usize, r: Record)
-    requires { (n ≤ 512) × (length sizes.old ≡ 1026) }
-    ensures { sizes.new ≡ stored sizes.old n r }
-{
-    match r {
-        Record::Step(st) => store_step(sizes, n, st),
-        Record::Wrong => {}
-    }
-}
-
 // The record at `at`, which is record n: a W from the cache, any other read from the text.
-pub fn cached_record(text: &[u8], unit: SizeUnit, at: usize, sizes: &[f32], n: usize) -> Record
+pub fn cached_record(text: &[u8], unit: SizeUnit, at: usize, sizes: &[f32], n: usize) -> Option<Step>
     requires n_bound { (n ≤ 512) × (length sizes.now ≡ 1026) }
     requires cached { IsCached unit (drop at text.now) sizes.now n }
     ensures { result ≡ record_at unit text.now at }
@@ -49,7 +39,7 @@ pub fn cached_record(text: &[u8], unit: SizeUnit, at: usize, sizes: &[f32], n: u
     if byte(text, at) == b'W' {
         let width = sizes[n];
         let height = sizes[HEIGHTS + n];
-        return Record::Step(Step::Widget(width, height));
+        return Some(Step::Widget(width, height));
     }
     read_record(text, unit, at)
 }

@@ -11,7 +11,7 @@ use Rattle.records.specs.Headings.{heading_in}
 use Rattle.records.specs.Sheets.{records_from, steps_left, records, wrong_from}
 use Rattle.records.specs.Controls.{only_controls, Size, size_of, sizes_from, sizes_in, Sized}
 use Rattle.records.specs.declared.SizeUnit.{SizeUnit}
-use Rattle.records.specs.declared.Record.{Record}
+use Rattle.records.specs.Records.{Record}
 use Rattle.records.proofs.Controls.{Read, read}
 use Rattle.sheet.specs.Texts.{steps_of, sheet_in}
 

@@ -13,8 +13,8 @@ use Rattle.emath.specs.declared.Vec2.{Vec2}
 use Rattle.grid.specs.declared.Memory.{Memory}
 use Rattle.placer.specs.declared.Placer.{Placer}
 use Rattle.records.specs.Sheets.{checked}
-use Rattle.records.specs.declared.Checked.{Checked}
-use Rattle.records.specs.declared.Checked.TheVariants as checked-of
+use Rattle.records.specs.Sheets.{Checked}
+use Rattle.records.specs.Sheets as checked-of
 use Rattle.records.specs.declared.Step.{Step}
 use Rattle.records.proofs.Checks.{some_number}
 use Rattle.sheet.specs.declared.Laid.TheVariants.{Accepted, Refused}

@@ -22,12 +22,12 @@ use Rattle.records.proofs.Prefixes.{few-records}
 use Rattle.records.proofs.Checks.{clear}
 use Rattle.records.proofs.SizeCache.{cached-in, cached-by-length}
 use Rattle.sheet.specs.Implementation.Walks.{OnlySteps, none, more, Room}
-use Rattle.records.specs.declared.Checked.{Checked}
-use Rattle.records.specs.declared.Checked.TheVariants.{Accepted, Refused}
+use Rattle.records.specs.Sheets.{Checked}
+use Rattle.records.specs.Sheets.{Accepted, Refused}
 use Rattle.records.specs.declared.Step.{Step}
 use Rattle.records.specs.declared.Step.TheVariants.{Widget, Space, RowHeight, MaxWidth, MaxHeight, MinWidth, MinHeight, RowEnd}
-use Rattle.records.specs.declared.Record.{Record}
-use Rattle.records.specs.declared.Record.TheVariants as record_kind
+use Rattle.records.specs.Records.{Record}
+use Rattle.std.specs.Prelude.{None, Some}
 use Rattle.sheet.specs.Pass as pass-rules
 use Rattle.sheet.specs.Pass.{Sheet, Cell, Ran, Stepped, stepped, followed, run_from, called, headed, grid_set, begun, ran_with, plate_of, remembered, refused_at, outcome_of, pass}
 use Rattle.sheet.specs.Texts.{steps_of, sheet_in}
@@ -98,15 +98,15 @@ pass-few k s known m sizing =
 pub sheet-few : (rs : List Record) → controls (steps_of rs) ≤ widgets rs
 unfolding steps_of controls widgets widget
 sheet-few [] = omega arith
-sheet-few (record_kind.Step st ∷ rs) = omega (arith, sheet-few rs)
-sheet-few (record_kind.Wrong ∷ rs) = omega (arith, sheet-few rs)
+sheet-few (Some st ∷ rs) = omega (arith, sheet-few rs)
+sheet-few (None ∷ rs) = omega (arith, sheet-few rs)
 
 -- ---- the records of a text that is not refused are steps
 pub only-steps : (k : ℕ) (rs : List Record) → 0 < k → wrong_from k rs ≡ 0 → OnlySteps rs
 unfolding wrong_from
 only-steps k [] l h = none
-only-steps k (record_kind.Step st ∷ rs) l h = more (only-steps (k + 1) rs (omega arith) h)
-only-steps k (record_kind.Wrong ∷ rs) l h = absurd (omega (arith, h))
+only-steps k (Some st ∷ rs) l h = more (only-steps (k + 1) rs (omega arith) h)
+only-steps k (None ∷ rs) l h = absurd (omega (arith, h))
 
 -- there is room for it, and its W are cached
 pub room_after : (text : List ℕ) (room r w : ℕ) (sizes : List Float) → length sizes ≡ 1026 → checked text room ≡ Accepted r w → Room (heading_in text) text room (cached_by text sizes)

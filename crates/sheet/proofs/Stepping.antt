@@ -27,8 +27,8 @@ use Rattle.grid.specs.declared.Memory.{Memory}
 use Rattle.records.specs.declared.Heading.{Heading}
 use Rattle.records.specs.declared.Step.{Step}
 use Rattle.records.specs.declared.Step.TheVariants.{Widget, Space, RowHeight, MaxWidth, MaxHeight, MinWidth, MinHeight, RowEnd}
-use Rattle.records.specs.declared.Record.{Record}
-use Rattle.records.specs.declared.Record.TheVariants as record_kind
+use Rattle.records.specs.Records.{Record}
+use Rattle.std.specs.Prelude.{None, Some}
 use Rattle.sheet.specs.Pass.{cell_of, widget_fault, widget_step, grid_of, grid_set}
 use Rattle.sheet.proofs.Runs.{widget-placed}
 use Rattle.sheet.specs.Implementation.Calls.{given_number, answered_number, placement, step_result, record_result}
@@ -97,8 +97,8 @@ step-none p sp RowEnd h = let c = changed-accepted _ p _ h in rw c.2 c.1
 
 pub moved_none : (p : Placer) (sp : Vec2) (r : Record) → (record_result p sp r).number ≡ 0 → placer_fault (record_result p sp r).placer ≡ 0
 unfolding record_result
-moved_none p sp (record_kind.Step st) h = step-none p sp st h
-moved_none p sp record_kind.Wrong h = absurd (let z : ◌≡◌ {A = ℕ} 1 0 = h in omega arith)
+moved_none p sp (Some st) h = step-none p sp st h
+moved_none p sp None h = absurd (let z : ◌≡◌ {A = ℕ} 1 0 = h in omega arith)
 
 -- ---- nor after H or G
 changed-none : (n : ℕ) (given new : Placer) (a : PlacerAnswer) → a ≡ changed_placer n given new → a.number ≡ 0 → placer_fault a.placer ≡ 0

@@ -16,7 +16,7 @@ use Rattle.records.specs.Headings.{heading_in}
 use Rattle.records.specs.Sheets.{checked}
 use Rattle.records.specs.declared.Heading.{Heading}
 use Rattle.records.specs.declared.Step.{Step}
-use Rattle.records.specs.declared.Checked.TheVariants.{Accepted, Refused}
+use Rattle.records.specs.Sheets.{Accepted, Refused}
 use Rattle.sheet.specs.Pass.{Sheet, Ran, called, followed, run_from, headed, grid_set, plate_of, refused_at, outcome_of, begun, ran_with, pass}
 use Rattle.sheet.specs.Texts.{sheet_in}
 use Rattle.sheet.specs.Slices.{written, passed_of, Called, after_check, laid}

@@ -22,8 +22,8 @@ use Rattle.records.specs.Records.{record_of, rest}
 use Rattle.records.specs.Sheets.{records_from}
 use Rattle.records.specs.declared.Step.{Step}
 use Rattle.records.specs.declared.Step.TheVariants.{Widget, Space, RowHeight, MaxWidth, MaxHeight, MinWidth, MinHeight, RowEnd}
-use Rattle.records.specs.declared.Record.{Record}
-use Rattle.records.specs.declared.Record.TheVariants as record_kind
+use Rattle.records.specs.Records.{Record}
+use Rattle.std.specs.Prelude.{Some}
 use Rattle.sheet.specs.Pass.{Cell, Stepped, Ran, widget_step, stepped, followed, run_from, around, plate_of}
 use Rattle.sheet.specs.Texts.{steps_of}
 use Rattle.sheet.specs.Slices.{eight, written}
@@ -101,7 +101,7 @@ one-record n m a out w plate later next s e = rw (s.number, s.placer) (go (eqb a
     go true z = rw z (e ∙ rw (s.puts later.cells, s.joins later.cells))
     go false z = rw z
 
-pub first_step : {r : Record} {rs : List Record} → OnlySteps (r ∷ rs) → (st : Step) × (r ≡ record_kind.Step st) × OnlySteps rs
+pub first_step : {r : Record} {rs : List Record} → OnlySteps (r ∷ rs) → (st : Step) × (r ≡ Some st) × OnlySteps rs
 first_step (more {st = st} t) = (st, refl, t)
 
 -- a record, and the run from there on
@@ -113,7 +113,7 @@ turn-of v left sp n p u out w plate r =
 
 step-turn : (v : SizeUnit) (left : ℕ) (sp : Vec2) (n : ℕ) (p : Placer) (u : List ℕ) (out : List ℤ) (w : ℕ) (plate : Rect) (st : Step) (rs : List Record)
     → ((n : ℕ) (p : Placer) (out : List ℤ) (w : ℕ) (plate : Rect) → walked v left sp n p u out w plate ≡ walk_of out w plate (run_from tick sp n p (steps_of rs)))
-    → turn-of v left sp n p u out w plate (record_kind.Step st) ≡ walk_of out w plate (run_from tick sp n p (steps_of (record_kind.Step st ∷ rs)))
+    → turn-of v left sp n p u out w plate (Some st) ≡ walk_of out w plate (run_from tick sp n p (steps_of (Some st ∷ rs)))
 unfolding turn-of record_result steps_of run_from
 step-turn v left sp n p u out w plate st rs ih =
     let a = as-rule p sp st out w plate in

@@ -22,8 +22,8 @@ use Rattle.records.proofs.Places.{next-is-rest}
 use Rattle.records.proofs.Reached.{records-step}
 use Rattle.records.specs.declared.Step.{Step}
 use Rattle.records.specs.declared.Step.TheVariants.{Widget, Space, RowHeight, MaxWidth, MaxHeight, MinWidth, MinHeight, RowEnd}
-use Rattle.records.specs.declared.Record.{Record}
-use Rattle.records.specs.declared.Record.TheVariants as record_kind
+use Rattle.records.specs.Records.{Record}
+use Rattle.std.specs.Prelude.{None, Some}
 use Rattle.sheet.specs.Pass.{cell_of}
 use Rattle.sheet.specs.Implementation.Calls.{CallResult, placement, step_result, record_result}
 use Rattle.sheet.specs.Implementation.Walks.{put_at, plate_with}
@@ -46,8 +46,8 @@ step-placed p sp RowEnd = refl
 
 pub result-placed : (p : Placer) (sp : Vec2) (r : Record) → (record_result p sp r).placed ≡ widget r
 unfolding record_result widget
-result-placed p sp (record_kind.Step st) = step-placed p sp st
-result-placed p sp record_kind.Wrong = refl
+result-placed p sp (Some st) = step-placed p sp st
+result-placed p sp None = refl
 
 abbrev pub Whole : CallResult → Type 0
 Whole m = WholeRect tick m.frame × WholeRect tick m.widget
@@ -65,8 +65,8 @@ step-whole p sp RowEnd n l = absurd (omega (arith, l))
 
 pub result-whole : (p : Placer) (sp : Vec2) (r : Record) → (record_result p sp r).number ≡ 0 → 0 < (record_result p sp r).placed → Whole (record_result p sp r)
 unfolding record_result
-result-whole p sp (record_kind.Step st) n l = step-whole p sp st n l
-result-whole p sp record_kind.Wrong n l = absurd (omega (arith, l))
+result-whole p sp (Some st) n l = step-whole p sp st n l
+result-whole p sp None n l = absurd (omega (arith, l))
 
 one-or-none : (st : Step) → widget_step st ≤ 1
 unfolding widget_step
@@ -81,8 +81,8 @@ one-or-none RowEnd = omega arith
 
 pub at_most_one : (r : Record) → widget r ≤ 1
 unfolding widget
-at_most_one (record_kind.Step st) = one-or-none st
-at_most_one record_kind.Wrong = omega arith
+at_most_one (Some st) = one-or-none st
+at_most_one None = omega arith
 
 -- ---- one turn
 front : (m : SizeUnit) (left : ℕ) (sp : Vec2) (n : ℕ) (p : Placer) (u : List ℕ) (out : List ℤ) (w : ℕ) (plate : Rect) → 0 < left → 0 < length u

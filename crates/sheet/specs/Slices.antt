@@ -5,8 +5,8 @@ use Rattle.emath.specs.Steps.{tick}
 use Rattle.grid.specs.declared.Memory.{Memory}
 use Rattle.records.specs.Sheets.{checked, widget_step}
 use Rattle.records.specs.declared.Step.{Step}
-use Rattle.records.specs.declared.Checked.{Checked}
-use Rattle.records.specs.declared.Checked.TheVariants.{Accepted, Refused}
+use Rattle.records.specs.Sheets.{Checked}
+use Rattle.records.specs.Sheets.{Accepted, Refused}
 use Rattle.sheet.specs.declared.Laid.{Laid}
 use Rattle.sheet.specs.declared.Laid.TheVariants as Laid-of
 use Rattle.sheet.specs.declared.Passed.{Passed}

@@ -16,7 +16,7 @@ use Rattle.text.specs.Fields.{text, field, field_at}
 use Rattle.text.specs.Lines.{texts, line}
 use Rattle.text.proofs.RoundTrip.{text-is-read}
 use Rattle.records.specs.Sheets.{widget, widgets}
-use Rattle.records.specs.declared.Record.{Record}
+use Rattle.records.specs.Records.{Record}
 use Rattle.sheet.specs.Pass.{Cell}
 use Rattle.sheet.specs.Ticks.{ticks}
 use Rattle.sheet.specs.Slices.{eight}

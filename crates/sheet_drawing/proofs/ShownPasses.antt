@@ -18,8 +18,8 @@ use Rattle.grid.specs.declared.Memory.{Memory}
 use Rattle.text.specs.Lines.{texts, line}
 use Rattle.records.specs.Headings.{heading_in}
 use Rattle.records.specs.Sheets.{records, widget, widgets, checked}
-use Rattle.records.specs.declared.Record.{Record}
-use Rattle.records.specs.declared.Checked.TheVariants as checked-of
+use Rattle.records.specs.Records.{Record}
+use Rattle.records.specs.Sheets as checked-of
 use Rattle.records.proofs.Checks.{clear}
 use Rattle.sheet.specs.Pass.{Cell, Outcome, pass}
 use Rattle.sheet.specs.Passes.{passes}

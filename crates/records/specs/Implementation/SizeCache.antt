@@ -4,8 +4,8 @@ use Rattle.std.specs.Float.{nan}
 use Rattle.text.specs.Letters as letters
 use Rattle.records.specs.declared.Step.{Step}
 use Rattle.records.specs.declared.Step.TheVariants.{Widget, Space, RowHeight, MaxWidth, MaxHeight, MinWidth, MinHeight, RowEnd}
-use Rattle.records.specs.declared.Record.{Record}
-use Rattle.records.specs.declared.Record.TheVariants.{Step as Steps, Wrong}
+use Rattle.records.specs.Records.{Record}
+use Rattle.std.specs.Prelude.{Some as Steps, None as Wrong}
 use Rattle.records.specs.declared.SizeUnit.{SizeUnit}
 use Rattle.records.specs.Parts.{letter}
 use Rattle.records.specs.Records.{record_of, rest}
@@ -22,10 +22,6 @@ stored_step ss n (MaxHeight x) = ss
 stored_step ss n (MinWidth x) = ss
 stored_step ss n (MinHeight x) = ss
 stored_step ss n RowEnd = ss
-
-unfoldable pub stored : List Float → ℕ → Record → List Float
-stored ss n (Steps st) = stored_step ss n st
-stored ss n Wrong = ss
 
 -- the array after these records, the first of them record n: every W before one that is no step is in its places
 unfoldable pub cached_from : ℕ → List Record → List Float → List Float
@@ -50,8 +46,3 @@ AreCached u (suc left) (b ∷ s) ss n = IsCached u (b ∷ s) ss n × AreCached u
 -- the same of each record of a text after its heading
 abbrev pub CachedIn : List ℕ → List Float → Type 0
 CachedIn s ss = AreCached (heading_in s).unit (steps_left s) (drop (heading_in s).next s) ss ((heading_in s).records + 1)
-
--- whether a record is a step
-unfoldable pub is_step : Record → Bool
-is_step (Steps st) = true
-is_step Wrong = false

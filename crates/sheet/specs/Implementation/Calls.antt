@@ -15,8 +15,8 @@ use Rattle.placer.specs.declared.PlacerSettings.{PlacerSettings}
 use Rattle.placer.specs.declared.PassState.{PassState}
 use Rattle.records.specs.declared.Step.{Step}
 use Rattle.records.specs.declared.Step.TheVariants.{Widget, Space, RowHeight, MaxWidth, MaxHeight, MinWidth, MinHeight, RowEnd}
-use Rattle.records.specs.declared.Record.{Record}
-use Rattle.records.specs.declared.Record.TheVariants as record_kind
+use Rattle.records.specs.Records.{Record}
+use Rattle.std.specs.Prelude.{None, Some}
 use Rattle.sheet.specs.declared.StepResult.{StepResult}
 use Rattle.sheet.specs.Pass.{cell_of, widget_step}
 
@@ -70,5 +70,5 @@ step_result p sp RowEnd = called_by (checked_end_row p sp)
 
 -- what is no step is malformed; after the check there is none
 unfoldable pub record_result : Placer → Vec2 → Record → CallResult
-record_result p sp (record_kind.Step st) = step_result p sp st
-record_result p sp record_kind.Wrong = called_by (record { number = number.malformed; placer = p })
+record_result p sp (Some st) = step_result p sp st
+record_result p sp None = called_by (record { number = number.malformed; placer = p })

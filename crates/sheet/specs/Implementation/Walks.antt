@@ -15,9 +15,9 @@ use Rattle.records.specs.Headings.{heading_in}
 use Rattle.records.specs.Implementation.SizeCache.{AreCached}
 use Rattle.records.specs.declared.Heading.{Heading}
 use Rattle.records.specs.declared.Step.{Step}
-use Rattle.records.specs.declared.Record.{Record}
-use Rattle.records.specs.declared.Record.TheVariants as record_kind
-use Rattle.records.specs.declared.Checked.TheVariants as checked-of
+use Rattle.records.specs.Records.{Record}
+use Rattle.std.specs.Prelude.{Some}
+use Rattle.records.specs.Sheets as checked-of
 use Rattle.sheet.specs.declared.RunResult.{RunResult}
 use Rattle.sheet.specs.declared.Passed.{Passed}
 use Rattle.sheet.specs.Pass.{Sheet, Cell, Ran, run_from, plate_of, outcome_of}
@@ -68,7 +68,7 @@ pub record Answers (grid : Bool) (m : Memory) (r : Ran) (out : List ℤ) (p : Pa
 -- records that are all steps
 pub data OnlySteps : List Record → Type 0 where
   none : OnlySteps []
-  more : {st : Step} {rs : List Record} → OnlySteps rs → OnlySteps (record_kind.Step st ∷ rs)
+  more : {st : Step} {rs : List Record} → OnlySteps rs → OnlySteps (Some st ∷ rs)
 
 -- the records after a heading
 abbrev pub records_after : Heading → List ℕ → List Record

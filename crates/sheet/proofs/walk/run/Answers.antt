@@ -2,7 +2,7 @@ use mathlib.Core.Path.{ap, sym, ◌∙◌}
 use native.Mathlib.Omega.{arith}
 use Rattle.emath.specs.Steps.{tick}
 use Rattle.placer.specs.Implementation.Lent.{placer_of}
-use Rattle.records.specs.declared.Record.{Record}
+use Rattle.records.specs.Records.{Record}
 use Rattle.records.proofs.Places.{next-within}
 use Rattle.records.proofs.SizeCache.{cached-here, still-cached}
 use Rattle.sheet.specs.Implementation.Calls.{record_result}

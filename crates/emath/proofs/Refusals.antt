@@ -6,7 +6,7 @@ use lib.Ieee.Fits.{down_pos}
 use lib.Ieee.Scale.{round_same}
 use Rattle.emath.specs.Rectangles.{zero_f}
 use Rattle.emath.specs.Domain.{finite, limit, within, both_of, edges_of, inside_out}
-use Rattle.std.specs.Prelude.{Option, None, Some}
+use Rattle.std.specs.Prelude.{Option, None, Some, is_some}
 use Rattle.std.specs.Bool.{then_some}
 use Rattle.std.specs.Ordering.{ord_min}
 use Rattle.emath.specs.contracts.RefusalOrd.TheImpl.{cmp-value}
@@ -233,3 +233,21 @@ answer-value zeros (suc n) x = rw (some n)
 -- what an answer says: the number it was made of, and the value that goes with it
 pub says : {A : Type 0} (zeros : A) (n : ℕ) (x : A) → (answer_number (answer n x) ≡ n) × (answer_value zeros (answer n x) ≡ or_zeros zeros (answer_number (answer n x)) x)
 says zeros n x = (answer-number n x, answer-value zeros n x ∙ ap (λ (m : ℕ). or_zeros zeros m x) (sym (answer-number n x)))
+
+-- ---- a refusal's number is never 0
+pub number-some : (e : Refusal) → eqb (number_of e) 0 ≡ false
+number-some Malformed = refl
+number-some e = refl
+
+pub none-number : (f : Option Refusal) (b : Bool) → is_some f ≡ not b → eqb (fault_number f) 0 ≡ b
+none-number None true h = refl
+none-number None false h = absurd (true≢false (sym h))
+none-number (Some e) true h = absurd (true≢false h)
+none-number (Some e) false h = number-some e
+
+pub number-none : (n : ℕ) (e : Refusal) → n ≡ number_of e → n ≡ 0 → ⊥
+number-none n e h z = true≢false (sym (eq-eqb n 0 z) ∙ rw h (number-some e))
+
+-- of two in turn, by their numbers
+pub or-is : (a b r : Option Refusal) (n m : ℕ) → r ≡ option_or a b → fault_number a ≡ n → fault_number b ≡ m → fault_number r ≡ or_else n m
+or-is a b r n m e p q = rw (e, ← p, ← q) (or-number a b)

@@ -16,7 +16,7 @@ use Rattle.records.specs.Sheets as checked-of
 use Rattle.sheet.specs.Ticks.{in_ticks}
 use Rattle.sheet.specs.Texts.{sheet_in}
 use Rattle.sheet.specs.Slices.{edges, laid_number, laid_record, LaidOut, after_check, laid, Returns}
-use Rattle.sheet.specs.declared.Passed.{Passed}
+use Rattle.sheet.specs.Slices.{Passed}
 use Rattle.sheet.proofs.Plates.{zero-rect}
 use Rattle.pass_laws.proofs.WholeEdges.{whole-pass}
 use Rattle.listing.specs.Lists.{settled_from, settled}

@@ -24,9 +24,9 @@ use Rattle.sheet.specs.Passes.{passes}
 use Rattle.sheet.specs.Ticks.{in_ticks}
 use Rattle.sheet.specs.Texts.{sheet_in}
 use Rattle.sheet.specs.Slices.{edges, laid_of, laid_number, after_check, laid, Called}
-use Rattle.sheet.specs.declared.Laid.{Laid}
-use Rattle.sheet.specs.declared.Laid.TheVariants.{Accepted, Refused}
-use Rattle.sheet.specs.declared.Passed.{Passed}
+use Rattle.sheet.specs.Slices.{Laid}
+use Rattle.sheet.specs.Slices.{Accepted, Refused}
+use Rattle.sheet.specs.Slices.{Passed}
 use Rattle.sheet.proofs.Slices as sheet-slices
 use Rattle.pass_laws.proofs.TextTicks.{text-whole}
 use Rattle.pass_laws.proofs.WholeEdges.{whole-pass}

@@ -22,9 +22,9 @@ use Rattle.text.specs.Lines.{line, have_texts, line_at}
 use Rattle.grid.specs.Memories.{widths, heights}
 use Rattle.sheet.specs.Ticks.{ticks, in_ticks}
 use Rattle.sheet.specs.Slices.{edges}
-use Rattle.sheet.specs.declared.Laid.{Laid}
-use Rattle.sheet.specs.declared.Laid.TheVariants.{Accepted, Refused}
-use Rattle.sheet.specs.declared.Passed.{Passed}
+use Rattle.sheet.specs.Slices.{Laid}
+use Rattle.sheet.specs.Slices.{Accepted, Refused}
+use Rattle.sheet.specs.Slices.{Passed}
 use Rattle.listing.specs.Implementation.ListWriter.{Put, bytes, put_line, mark, places_of, put_widget, put_widgets, put_entries, put_memory, put_accepted, put_passed, Whole, none, more}
 
 -- ---- put_line

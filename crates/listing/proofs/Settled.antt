@@ -23,7 +23,7 @@ use Rattle.sheet.specs.Passes.{passes}
 use Rattle.sheet.specs.Texts.{sheet_in}
 use Rattle.sheet.specs.Slices.{LaidOut, laid_of, laid_number, passed_of, after_check, laid, Returns, Called}
 use Rattle.sheet.specs.Implementation.Walks.{Known}
-use Rattle.sheet.specs.declared.Passed.{Passed}
+use Rattle.sheet.specs.Slices.{Passed}
 use Rattle.sheet.proofs.Returned.{called}
 use Rattle.sheet.proofs.Slices.{room_after, laid-length}
 use Rattle.listing.specs.Lists.{printed, settled_from, settled, list_of}

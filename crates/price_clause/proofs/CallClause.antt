@@ -18,8 +18,8 @@ use Rattle.records.specs.Sheets.{checked}
 use Rattle.records.specs.Sheets.{Checked}
 use Rattle.records.specs.Sheets as checked-of
 use Rattle.records.proofs.Checks.{some_number}
-use Rattle.sheet.specs.declared.Laid.TheVariants.{Accepted}
-use Rattle.sheet.specs.declared.Passed.{Passed}
+use Rattle.sheet.specs.Slices.{Accepted}
+use Rattle.sheet.specs.Slices.{Passed}
 use Rattle.sheet.specs.Pass.{Cell, Outcome, pass}
 use Rattle.sheet.specs.Ticks.{Ticks, ticks, in_ticks}
 use Rattle.sheet.specs.Texts.{sheet_in}

@@ -29,8 +29,8 @@ use Rattle.records.proofs.Hundredths.{converts, more-times, less-times}
 use Rattle.sheet.specs.Pass.{pass}
 use Rattle.sheet.specs.Texts.{sheet_in}
 use Rattle.sheet.specs.Slices.{Called}
-use Rattle.sheet.specs.declared.Laid.TheVariants.{Accepted}
-use Rattle.sheet.specs.declared.Passed.{Passed}
+use Rattle.sheet.specs.Slices.{Accepted}
+use Rattle.sheet.specs.Slices.{Passed}
 use Rattle.sheet.proofs.Controls.{text-sized}
 use Rattle.sheet.proofs.Shown.{shown}
 use Rattle.sheet.specs.Ticks.{ticks, in_ticks, width}

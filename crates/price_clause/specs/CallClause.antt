@@ -7,8 +7,8 @@ use Rattle.emath.specs.declared.Rect.{Rect}
 use Rattle.region.specs.Refusals.{zero_rect}
 use Rattle.grid.specs.Memories.{col_width}
 use Rattle.grid.specs.declared.Memory.{Memory}
-use Rattle.sheet.specs.declared.Laid.TheVariants.{Accepted}
-use Rattle.sheet.specs.declared.Passed.{Passed}
+use Rattle.sheet.specs.Slices.{Accepted}
+use Rattle.sheet.specs.Slices.{Passed}
 use Rattle.sheet.specs.Pass.{Cell}
 use Rattle.sheet.specs.Ticks.{Ticks, in_ticks}
 use Rattle.sheet.specs.Texts.{sheet_in}

@@ -15,8 +15,8 @@ use Rattle.sheet.specs.Pass.{Sheet, pass}
 use Rattle.sheet.specs.Ticks.{ticks, in_ticks, width}
 use Rattle.sheet.specs.Texts.{sheet_in}
 use Rattle.sheet.specs.Slices.{Called, controls}
-use Rattle.sheet.specs.declared.Laid.TheVariants as laid
-use Rattle.sheet.specs.declared.Passed.{Passed}
+use Rattle.sheet.specs.Slices as laid
+use Rattle.sheet.specs.Slices.{Passed}
 use Rattle.pass_laws.specs.WholeSheets.{WholeSheet}
 use Rattle.price_clause.specs.Sheets.{Grown, NoNegativeSpacing, Strip}
 use Rattle.price_clause.specs.PriceClause.{Accepted}

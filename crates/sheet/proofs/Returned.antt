@@ -13,8 +13,11 @@ use Rattle.records.specs.Sheets.{checked}
 use Rattle.records.specs.Sheets.{Checked}
 use Rattle.records.specs.Sheets as checked-of
 use Rattle.records.proofs.Checks.{some_number}
-use Rattle.sheet.specs.declared.Laid.TheVariants.{Accepted, Refused}
-use Rattle.sheet.specs.declared.Passed.{Passed}
+use Rattle.sheet.specs.Slices.{Accepted, Refused}
+use Rattle.emath.specs.Refusals.{number_of}
+use Rattle.emath.specs.declared.Refusal.{Refusal}
+use Rattle.emath.proofs.Refusals.{number-some}
+use Rattle.sheet.specs.Slices.{Passed}
 use Rattle.sheet.specs.Pass.{Sheet, Outcome, pass}
 use Rattle.sheet.specs.Slices.{laid_of, laid_number, laid_record, passed_of, after_check, laid, Called}
 use Rattle.sheet.proofs.Passes.{Ended, well, badly, outcome-ends}
@@ -26,6 +29,10 @@ laid-number n at = go (eqb n 0) refl
     go : (b : Bool) → eqb n 0 ≡ b → laid_number (cond b Accepted (Refused n at)) ≡ n
     go true e = sym (eqb-true n 0 e)
     go false e = refl
+
+pub laid-refused : (e : Refusal) (at : ℕ) → laid_of (number_of e) at ≡ Refused (number_of e) at
+unfolding laid_of
+laid-refused e at = rw (number-some e)
 
 pub laid-record : (n at : ℕ) → (n ≡ 0 → at ≡ 0) → laid_record (laid_of n at) ≡ at
 unfolding laid_record laid_of

@@ -17,8 +17,8 @@ use Rattle.records.specs.Sheets.{Checked}
 use Rattle.records.specs.Sheets as checked-of
 use Rattle.records.specs.declared.Step.{Step}
 use Rattle.records.proofs.Checks.{some_number}
-use Rattle.sheet.specs.declared.Laid.TheVariants.{Accepted, Refused}
-use Rattle.sheet.specs.declared.Passed.{Passed}
+use Rattle.sheet.specs.Slices.{Accepted, Refused}
+use Rattle.sheet.specs.Slices.{Passed}
 use Rattle.sheet.specs.Pass.{Sheet, Cell, Ran, called, stepped, followed, run_from, headed, grid_set, begun, ran_with, pass}
 use Rattle.sheet.specs.Texts.{sheet_in}
 use Rattle.sheet.specs.Slices.{Called, controls, written, laid_of, after_check, laid}

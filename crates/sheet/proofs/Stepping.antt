@@ -21,7 +21,7 @@ use Rattle.placer.specs.Implementation.Lent.{past_part}
 use Rattle.placer.proofs.Answers.{changed-accepted}
 use Rattle.placer.proofs.Unfaulted.{past-fault}
 use Rattle.placer.specs.declared.Placer.{Placer}
-use Rattle.placer.specs.declared.PlacerAnswer.{PlacerAnswer}
+use Rattle.placer.specs.Refusals.{PlacerAnswer}
 use Rattle.layout.specs.declared.Layout.{Layout}
 use Rattle.grid.specs.declared.Memory.{Memory}
 use Rattle.records.specs.declared.Heading.{Heading}
@@ -72,9 +72,9 @@ module _ (p : Placer) (sp s : Vec2) (none : placer_fault p ≡ 0) (cols : length
     fault : n ≡ widget_fault sp p s (cell_of tick sp p s)
     fault = en ∙ number_is f w ∙ rw (ew, ef)
 
-    pub placement-refused : (n ≡ 0 → ⊥) → record { number = n; placer = p; placed = 1; frame = f; widget = w } ≡ placement p sp s
+    pub placement-number : (placement p sp s).number ≡ n
     unfolding placement widget_step
-    placement-refused h = rw (← fault, ne_eqb n 0 h, ew, ef)
+    placement-number = sym fault
 
     pub placement-accepted : (q : Placer) → n ≡ 0 → q ≡ advance_after_rects p f w sp → record { number = n; placer = q; placed = 1; frame = f; widget = w } ≡ placement p sp s
     unfolding placement widget_step

@@ -7,11 +7,15 @@ use borrow.Author.Tests.{eq-eqb, ne_eqb}
 use lib.IntN.{ℤ}
 use lib.ListN.{length}
 use lib.Seq.{sets}
+use Rattle.std.specs.Prelude.{Result, Ok, Err, IsErrAnd}
 use Rattle.emath.specs.Steps.{tick}
+use Rattle.emath.specs.Refusals.{number_of}
+use Rattle.emath.specs.declared.Refusal.{Refusal}
+use Rattle.placer.specs.Refusals.{placer_outcome}
 use Rattle.emath.specs.declared.Vec2.{Vec2}
 use Rattle.grid.specs.declared.Memory.{Memory}
 use Rattle.placer.specs.declared.Placer.{Placer}
-use Rattle.placer.specs.declared.PlacerAnswer.{PlacerAnswer}
+use Rattle.placer.specs.Refusals.{PlacerAnswer}
 use Rattle.records.specs.Headings.{heading_in}
 use Rattle.records.specs.Sheets.{checked}
 use Rattle.records.specs.declared.Heading.{Heading}
@@ -20,8 +24,8 @@ use Rattle.records.specs.Sheets.{Accepted, Refused}
 use Rattle.sheet.specs.Pass.{Sheet, Ran, called, followed, run_from, headed, grid_set, plate_of, refused_at, outcome_of, begun, ran_with, pass}
 use Rattle.sheet.specs.Texts.{sheet_in}
 use Rattle.sheet.specs.Slices.{written, passed_of, Called, after_check, laid}
-use Rattle.sheet.specs.declared.Passed.{Passed}
-use Rattle.sheet.specs.Implementation.Walks.{Run, ran_of, Walked, Answers, sheet_after}
+use Rattle.sheet.specs.Slices.{Passed}
+use Rattle.sheet.specs.Implementation.Walks.{Run, Sets, ran_of, Walked, Answers, sheet_after}
 use Rattle.sheet.proofs.Slices.{outcome-cells}
 use Rattle.sheet.proofs.Returned as returned
 
@@ -30,6 +34,15 @@ use Rattle.sheet.proofs.Returned as returned
 pub run-answers : (grid : Bool) (m : Memory) (sp : Vec2) (n : ℕ) (q : Placer) (steps : List Step) (out : List ℤ) (r : Run) (p : Passed) (exit : List ℤ) → Walked sp n q steps out r exit
     → (r.plate ≡ plate_of (run_from tick sp n q steps).cells → p ≡ passed_of (outcome_of grid m (ran_of (run_from tick sp n q steps).cells r))) → Answers grid m (run_from tick sp n q steps) out p exit
 run-answers grid m sp n q steps out r p exit w e = record { answer = e w.plate ∙ ap (λ (x : Ran). passed_of (outcome_of grid m x)) w.run; slice = w.slice }
+
+-- what gives a placer
+pub refused-sets : (r : Result Placer Refusal) (a : PlacerAnswer) (e : Refusal) → IsErrAnd r (λ d. d ≡ e) → a.number ≡ number_of e → Sets r a
+refused-sets (Ok p) a e h k = absurd h
+refused-sets (Err d) a e h k = k ∙ ap (λ x. number_of x) (sym h)
+
+pub outcome-sets : (r : Result Placer Refusal) (given : Placer) (a : PlacerAnswer) → placer_outcome given r ≡ a → Sets r a
+outcome-sets (Ok p) given a h = sym h
+outcome-sets (Err e) given a h = ap (λ (x : PlacerAnswer). x.number) (sym h)
 
 -- record n was refused
 pub refused-answers : (grid : Bool) (m : Memory) (n : ℕ) (a : PlacerAnswer) (later : Ran) (out : List ℤ) (p : Passed) → (a.number ≡ 0 → ⊥)

@@ -9,14 +9,14 @@ use lib.Dec.{T, eqb, leb}
 use borrow.Author.Tests.{eqb-true}
 use Rattle.emath.specs.Domain.{at_least_zero}
 use Rattle.emath.specs.Binary32.{RectF32}
-use Rattle.emath.specs.Refusals.{when, lesser, least, or_else, pair_fault, size_fault, edges_fault, rect_fault, outside}
+use Rattle.emath.specs.Refusals.{when, lesser, least, or_else, pair_fault, size_fault, edges_fault, rect_fault, outside, answer_number, answer_value, or_zeros}
 use Rattle.emath.proofs.Refusals.{lesser-none, lesser-some, lesser-assoc, or-none, or_some, outside-some}
 use Rattle.emath.proofs.Upright.{size-at-least-zero}
 use Rattle.emath.specs.declared.Rect.{Rect}
 use Rattle.emath.specs.declared.Vec2.{Vec2}
-use Rattle.region.specs.Refusals.{rect_number, rect_value, rect_or_zero}
+use Rattle.region.specs.Refusals.{zero_rect}
 use Rattle.region.specs.Operations.{placed_number}
-use Rattle.region.proofs.Answers.{rect-number, rect-value}
+use Rattle.emath.proofs.Refusals.{answer-number, answer-value}
 use Rattle.placer.specs.Rules.{next_space, justify_and_align, advance_after_rects}
 use Rattle.placer.specs.Refusals.{placer_fault, advance_fault, placer_answer, changed_placer}
 use Rattle.placer.specs.Operations.{checked_next_space, next_space_number, checked_justify_and_align, justify_and_align_number, checked_advance_after_rects}
@@ -50,38 +50,38 @@ module _ (k : ℕ) (sp : Vec2) (p : Placer) (s : Vec2) where
   abbrev given : ℕ
   given = least (placer_fault p ∷ size_fault s ∷ pair_fault sp.x sp.y ∷ [])
 
-  frame-number : rect_number (frame_call k sp p s) ≡ placed_number given f
+  frame-number : answer_number (frame_call k sp p s) ≡ placed_number given f
   unfolding checked_next_space next_space_number
-  frame-number = rect-number (placed_number given f) f
+  frame-number = answer-number (placed_number given f) f
 
-  frame-value : placed_number given f ≡ 0 → rect_value (frame_call k sp p s) ≡ f
-  unfolding checked_next_space next_space_number rect_or_zero
-  frame-value h = rect-value (placed_number given f) f ∙ rw h
+  frame-value : placed_number given f ≡ 0 → answer_value zero_rect (frame_call k sp p s) ≡ f
+  unfolding checked_next_space next_space_number or_zeros
+  frame-value h = answer-value zero_rect (placed_number given f) f ∙ rw h
 
-  widget-number : rect_value (frame_call k sp p s) ≡ f → rect_number (widget_call k sp p s) ≡ justify_and_align_number k p f s
+  widget-number : answer_value zero_rect (frame_call k sp p s) ≡ f → answer_number (widget_call k sp p s) ≡ justify_and_align_number k p f s
   unfolding checked_justify_and_align
-  widget-number h = rw h (rect-number (justify_and_align_number k p f s) w)
+  widget-number h = rw h (answer-number (justify_and_align_number k p f s) w)
 
-  widget-value : rect_value (frame_call k sp p s) ≡ f → rect_number (widget_call k sp p s) ≡ 0 → rect_value (widget_call k sp p s) ≡ w
-  unfolding checked_justify_and_align rect_or_zero
+  widget-value : answer_value zero_rect (frame_call k sp p s) ≡ f → answer_number (widget_call k sp p s) ≡ 0 → answer_value zero_rect (widget_call k sp p s) ≡ w
+  unfolding checked_justify_and_align or_zeros
   widget-value h n =
       let z : justify_and_align_number k p f s ≡ 0 = sym (widget-number h) ∙ n in
-      rw h (rect-value (justify_and_align_number k p f s) w ∙ rw z)
+      rw h (answer-value zero_rect (justify_and_align_number k p f s) w ∙ rw z)
 
   -- ---- where none of them is refused, they answer the W's rectangles and the placer past it
   record Answered : Type 0 where
-    pub frame : rect_value (frame_call k sp p s) ≡ f
-    pub widget : rect_value (widget_call k sp p s) ≡ w
+    pub frame : answer_value zero_rect (frame_call k sp p s) ≡ f
+    pub widget : answer_value zero_rect (widget_call k sp p s) ≡ w
     pub placer : (advance_call k sp p s).placer ≡ past_cell sp p (cell_of k sp p s)
 
   answered : calls_number k sp p s ≡ 0 → Answered
   unfolding calls_number
   answered h =
-      let a = or-none (lesser (rect_number (frame_call k sp p s)) _) _ h in
-      let b = or-none (rect_number (widget_call k sp p s)) (advance_call k sp p s).number a.1 in
-      let ef = frame-value (sym frame-number ∙ (lesser-none (rect_number (frame_call k sp p s)) _ a.0).0) in
+      let a = or-none (lesser (answer_number (frame_call k sp p s)) _) _ h in
+      let b = or-none (answer_number (widget_call k sp p s)) (advance_call k sp p s).number a.1 in
+      let ef = frame-value (sym frame-number ∙ (lesser-none (answer_number (frame_call k sp p s)) _ a.0).0) in
       let ew = widget-value ef b.0 in
-      let q : (advance_call k sp p s).placer ≡ advance_after_rects p (rect_value (frame_call k sp p s)) (rect_value (widget_call k sp p s)) sp = unfold checked_advance_after_rects in (changed-accepted _ p _ b.1).2 in
+      let q : (advance_call k sp p s).placer ≡ advance_after_rects p (answer_value zero_rect (frame_call k sp p s)) (answer_value zero_rect (widget_call k sp p s)) sp = unfold checked_advance_after_rects in (changed-accepted _ p _ b.1).2 in
       record { frame = ef; widget = ew; placer = q ∙ rw (ew, ef) }
 
   -- ---- the number
@@ -107,14 +107,14 @@ module _ (k : ℕ) (sp : Vec2) (p : Placer) (s : Vec2) where
       size : T (at_least_zero s)
       size = size-at-least-zero s none.1
 
-      frame_is : rect_value (frame_call k sp p s) ≡ f
+      frame_is : answer_value zero_rect (frame_call k sp p s) ≡ f
       frame_is = frame-value (unfold placed_number or_else outside in rw (z, ef))
 
       frame-fault : rect_fault f ≡ 0
       unfolding rect_fault least lesser
       frame-fault = rw (ef, next-space-upright k p s sp m c size)
 
-      widget-is : rect_number (widget_call k sp p s) ≡ outside (edges_fault w)
+      widget-is : answer_number (widget_call k sp p s) ≡ outside (edges_fault w)
       widget-is = widget-number frame_is ∙ (unfold justify_and_align_number placed_number least lesser or_else in rw (none.0, frame-fault, none.1))
 
       advance-number : advance_fault p ≡ 0 → edges_fault w ≡ 0 → (advance_call k sp p s).number ≡ outside past
@@ -124,10 +124,10 @@ module _ (k : ℕ) (sp : Vec2) (p : Placer) (s : Vec2) where
           let wf : rect_fault w ≡ 0 = unfold rect_fault least lesser in rw (ew, justify-and-align-upright k p f s (next-space-f32 k p s sp) size) in
           rw (v, frame_is, none.0, frame-fault, wf, none.2, d)
 
-      rest-is : advance_fault p ≡ 0 → outside (lesser (edges_fault w) past) ≡ or_else (rect_number (widget_call k sp p s)) (advance_call k sp p s).number
+      rest-is : advance_fault p ≡ 0 → outside (lesser (edges_fault w) past) ≡ or_else (answer_number (widget_call k sp p s)) (advance_call k sp p s).number
       rest-is d = go (eqb (edges_fault w) 0) refl
         where
-          go : (b : Bool) → eqb (edges_fault w) 0 ≡ b → outside (lesser (edges_fault w) past) ≡ or_else (rect_number (widget_call k sp p s)) (advance_call k sp p s).number
+          go : (b : Bool) → eqb (edges_fault w) 0 ≡ b → outside (lesser (edges_fault w) past) ≡ or_else (answer_number (widget_call k sp p s)) (advance_call k sp p s).number
           go true e = let ew = eqb-true (edges_fault w) 0 e in rw (widget-is, advance-number d ew, ew) (unfold lesser or_else outside in refl)
           go false e = rw (widget-is, outside-some (edges_fault w) e, outside-some (lesser (edges_fault w) past) (lesser-some (edges_fault w) past e)) (unfold or_else in refl)
 
@@ -137,7 +137,7 @@ module _ (k : ℕ) (sp : Vec2) (p : Placer) (s : Vec2) where
     number_is = rw frame-number (go (eqb given 0) (eqb (edges_fault f) 0) (advance-is p) refl refl)
       where
         later : ℕ
-        later = or_else (rect_number (widget_call k sp p s)) (advance_call k sp p s).number
+        later = or_else (answer_number (widget_call k sp p s)) (advance_call k sp p s).number
 
         goal : Type 0
         goal = or_else (lesser given (advance_fault p)) (outside (lesser (edges_fault f) (lesser (edges_fault w) past))) ≡ or_else (lesser (placed_number given f) (advance_fault p)) later

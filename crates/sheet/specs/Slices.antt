@@ -1,15 +1,16 @@
 -- RULES 6.12, 6.18, 8.3, 8.19: one pass over a text, with a lent slice for the rectangles, in ticks; and what the call promises.
-use Rattle.std.specs.Prelude.{ℕ, ◌+◌, ◌≡◌, Bool, cond, List, [], ◌∷◌, ◌++◌, eqb, ℤ, length}
+use Rattle.std.specs.Prelude.{ℕ, ◌+◌, ◌≡◌, Bool, cond, List, [], ◌∷◌, ◌++◌, eqb, ℤ, length, Result, Ok, Err}
 use Rattle.std.proofs.lemmas.List.Edits.{sets}
 use Rattle.emath.specs.Steps.{tick}
+use Rattle.emath.specs.Refusals.{number_of}
+use Rattle.emath.specs.declared.Rect.{Rect}
 use Rattle.grid.specs.declared.Memory.{Memory}
+use Rattle.records.specs.Sheets as checked-of
 use Rattle.records.specs.Sheets.{checked, widget_step}
 use Rattle.records.specs.declared.Step.{Step}
 use Rattle.records.specs.Sheets.{Checked}
-use Rattle.records.specs.Sheets.{Accepted, Refused}
-use Rattle.sheet.specs.declared.Laid.{Laid}
-use Rattle.sheet.specs.declared.Laid.TheVariants as Laid-of
-use Rattle.sheet.specs.declared.Passed.{Passed}
+use Rattle.records.specs.declared.SheetRefusal.{SheetRefusal}
+use Rattle.sheet.specs.declared.Passed.{Passed as Given}
 use Rattle.sheet.specs.Pass.{Cell, Outcome, refused_at, pass}
 use Rattle.sheet.specs.Texts.{sheet_in}
 use Rattle.sheet.specs.Ticks.{Ticks, in_ticks}
@@ -27,21 +28,39 @@ written (c ∷ rest) = eight c ++ written rest
 
 -- ---- RULES 6.12: what the call answers
 -- accepted, or the number and the record
+pub data Laid : Type 0 where
+  Accepted : Laid
+  Refused : ℕ → ℕ → Laid
+
 unfoldable pub laid_of : ℕ → ℕ → Laid
-laid_of number at = cond (eqb number 0) Laid-of.Accepted (Laid-of.Refused number at)
+laid_of number at = cond (eqb number 0) Accepted (Refused number at)
 
 -- its number and its record, 0 and 0 where the pass is accepted
 unfoldable pub laid_number : Laid → ℕ
-laid_number Laid-of.Accepted = 0
-laid_number (Laid-of.Refused n at) = n
+laid_number Accepted = 0
+laid_number (Refused n at) = n
 
 unfoldable pub laid_record : Laid → ℕ
-laid_record Laid-of.Accepted = 0
-laid_record (Laid-of.Refused n at) = at
+laid_record Accepted = 0
+laid_record (Refused n at) = at
 
 -- the whole answer; the rectangles stand in the slice
+pub record Passed : Type 0 where
+  pub laid : Laid
+  pub plate : Rect
+  pub memory : Memory
+  pub save : Bool
+
 abbrev pub passed_of : Outcome → Passed
 passed_of o = record { laid = laid_of o.number o.at; plate = o.plate; memory = o.memory; save = o.save }
+
+-- RULES 8.1: what a call answers, with the number for the refusal
+abbrev pub laid_outcome : Result (Unit {0}) SheetRefusal → Laid
+laid_outcome (Ok u) = Accepted
+laid_outcome (Err e) = Refused (number_of e.refusal) e.record
+
+abbrev pub passed_outcome : Given → Passed
+passed_outcome p = record { laid = laid_outcome p.laid; plate = p.plate; memory = p.memory; save = p.save }
 
 -- ---- RULES 6.12: what the call does
 -- what a pass gives, and what the slice then holds
@@ -51,8 +70,8 @@ pub record LaidOut : Type 0 where
 
 -- RULES 8.3, 8.19: after 1 to 3, which come first, the slice is as it was; else each W laid out has its places, and no other changes
 unfoldable pub after_check : Checked → List ℕ → Bool → Memory → Bool → List ℤ → LaidOut
-after_check (Refused n at) text known m sizing out = record { outcome = refused_at n at [] m; slice = out }
-after_check (Accepted records widgets) text known m sizing out = record {
+after_check (checked-of.Refused n at) text known m sizing out = record { outcome = refused_at n at [] m; slice = out }
+after_check (checked-of.Accepted records widgets) text known m sizing out = record {
   outcome = pass tick (sheet_in text) known m sizing;
   slice = sets out 0 (written (pass tick (sheet_in text) known m sizing).cells);
 }

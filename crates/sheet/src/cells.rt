@@ -4,8 +4,10 @@ ghost use Rattle.std.proofs.lemmas.List.Edits.{sets};
 ghost use Rattle.emath.specs.Steps.{tick, Edge};
 ghost use Rattle.region.specs.Steps.{WholeRect};
 ghost use Rattle.sheet.specs.Ticks.{ticks};
+ghost use Rattle.sheet.specs.Implementation.Calls.{placed_of, frame_of, widget_of};
 ghost use Rattle.sheet.specs.Implementation.Walks.{eight_of, put_at};
 
+use crate::Cell;
 use emath::{Rect, TICKS_PER_POINT};
 
 // An edge that is a whole tick, counted in ticks.
@@ -32,15 +34,15 @@ fn write_cell(out: &mut [i32], at: usize, frame: Rect, widget: Rect)
     out[at + 7] = tick(widget.bottom);
 }
 
-// Writes W number w, where `placed` is 1, and answers how many W there are then.
-pub fn put(out: &mut [i32], w: usize, placed: usize, frame: Rect, widget: Rect) -> usize
-    requires placed_in_bounds { (8 * (w + placed) ≤ length out.old) × (placed ≤ 1) }
-    requires whole_rect { 0 < placed → WholeRect tick frame × WholeRect tick widget }
-    ensures { (result ≡ w + placed) × (out.new ≡ put_at out.old w placed frame widget) }
+// Writes W number w, where there is one, and answers how many W there are then.
+pub fn put(out: &mut [i32], w: usize, cell: Option<Cell>) -> usize
+    requires placed_in_bounds { 8 * (w + placed_of cell) ≤ length out.old }
+    requires whole_rect { 0 < placed_of cell → WholeRect tick (frame_of cell) × WholeRect tick (widget_of cell) }
+    ensures { (result ≡ w + placed_of cell) × (out.new ≡ put_at out.old w (placed_of cell) (frame_of cell) (widget_of cell)) }
 {
-    if placed < 1 {
+    let Some(c) = cell else {
         return w;
-    }
-    write_cell(out, 8 * w, frame, widget);
+    };
+    write_cell(out, 8 * w, c.frame, c.widget);
     w + 1
 }

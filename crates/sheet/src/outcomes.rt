@@ -1,36 +1,27 @@
 // What a pass answers: a refusal, or what the run came to; and the placer that G gives.
 ghost use Rattle.std.specs.Prelude.{◌≡◌, List, []};
+ghost use Rattle.emath.specs.Refusals.{number_of};
 ghost use Rattle.sheet.specs.Pass.{Cell, refused_at, plate_of, outcome_of, grid_set as grid_set_by};
-ghost use Rattle.sheet.specs.Implementation.Walks.{run_of, ran_of};
-ghost use Rattle.sheet.specs.Slices.{laid_of, passed_of};
+ghost use Rattle.sheet.specs.Implementation.Walks.{Run, Comes, Sets, ran_of};
+ghost use Rattle.sheet.specs.Slices.{passed_of, passed_outcome};
 
-use crate::{Laid, Passed, RunResult};
-use emath::Rect;
-use emath::faults::or_else;
+use crate::{Passed, Ran};
+use emath::{Rect, Refusal};
 use grid::{GridLayout, Memory};
 use placer::lent::whole;
 use placer::rules::save_grid;
-use placer::{Placer, PlacerAnswer, PlacerSettings};
-use records::Heading;
+use placer::{Placer, PlacerSettings};
+use records::{Heading, SheetRefusal};
 
-fn laid_of(number: u8, at: usize) -> Laid
-    ensures { result ≡ laid_of number at }
+pub(crate) fn refused(refusal: Refusal, at: usize, memory: Memory) -> Passed
+    ensures { passed_outcome result ≡ passed_of (refused_at (number_of refusal) at [] memory) }
 {
-    if number == 0 {
-        Laid::Accepted
-    } else {
-        Laid::Refused(number, at)
-    }
-}
-
-pub(crate) fn refused(number: u8, at: usize, memory: Memory) -> Passed
-    ensures { result ≡ passed_of (refused_at number at [] memory) }
-{
-    let laid = laid_of(number, at);
-    let plate = Rect::ZERO;
     Passed {
-        laid,
-        plate,
+        laid: Err(SheetRefusal {
+            refusal,
+            record: at,
+        }),
+        plate: Rect::ZERO,
         memory,
         save: false,
     }
@@ -41,32 +32,29 @@ pub(crate) fn finish(
     grid: bool,
     memory: Memory,
     placer: PlacerSettings,
-    r: RunResult,
+    ran: Result<Ran, SheetRefusal>,
     prev: Memory,
     widths: [f32; 32],
     heights: [f32; 128],
 ) -> Passed
-    ensures { (cs : List Cell) → r.plate ≡ plate_of cs → result ≡ passed_of (outcome_of grid memory (ran_of cs (run_of placer r prev.col_widths prev.row_heights widths heights))) }
+    ensures { (r : Run) (cs : List Cell) → Comes placer ran prev.col_widths prev.row_heights widths heights r → r.plate ≡ plate_of cs → passed_outcome result ≡ passed_of (outcome_of grid memory (ran_of cs r)) }
 {
-    let number = r.number;
-    if number != 0 {
-        return refused(number, r.at, memory);
-    }
-    let s = r.state;
+    let r = match ran {
+        Ok(r) => r,
+        Err(e) => return refused(e.refusal, e.record, memory),
+    };
     let plate = r.plate;
-    let laid = Laid::Accepted;
     if grid {
-        let saved = save_grid(whole(placer, s, prev, widths, heights));
-        let kept = saved.memory;
+        let saved = save_grid(whole(placer, r.state, prev, widths, heights));
         return Passed {
-            laid,
+            laid: Ok(()),
             plate,
-            memory: kept,
+            memory: saved.memory,
             save: saved.save,
         };
     }
     Passed {
-        laid,
+        laid: Ok(()),
         plate,
         memory,
         save: false,
@@ -80,16 +68,14 @@ pub(crate) fn grid_set(
     memory: Memory,
     sizing: bool,
     placer: Placer,
-) -> PlacerAnswer
-    ensures { result ≡ grid_set_by heading known memory sizing placer }
+) -> Result<Placer, Refusal>
+    ensures { Sets result (grid_set_by heading known memory sizing placer) }
 {
     let layout = heading.layout;
-    let main_dir = layout.main_dir;
     let options = heading.options;
-    let region = placer.region;
-    let a = GridLayout::new(
-        main_dir,
-        region,
+    let grid = GridLayout::new(
+        layout.main_dir,
+        placer.region,
         known,
         memory,
         sizing,
@@ -98,12 +84,6 @@ pub(crate) fn grid_set(
         options.max_cell_size,
         options.num_columns,
         options.start_row,
-    );
-    let g = a.grid;
-    let b = placer.set_grid(g);
-    let p = b.placer;
-    PlacerAnswer {
-        number: or_else(a.number, b.number),
-        placer: p,
-    }
+    )?;
+    placer.set_grid(grid)
 }

@@ -7,7 +7,7 @@ ghost use Rattle.records.specs.Sheets.{records_from, widgets};
 ghost use Rattle.records.specs.Implementation.SizeCache.{AreCached, cached_by};
 ghost use Rattle.sheet.specs.Pass.{called, followed, grid_set as grid_set_by, run_from, pass as pass_by};
 ghost use Rattle.sheet.specs.Texts.{steps_of};
-ghost use Rattle.sheet.specs.Slices.{written, passed_of, Called};
+ghost use Rattle.sheet.specs.Slices.{written, passed_of, passed_outcome, Called};
 ghost use Rattle.sheet.specs.Implementation.Walks.{OnlySteps, records_after, sheet_after, Room, Known, Answers};
 
 use crate::Passed;
@@ -20,7 +20,7 @@ use placer::Placer;
 use placer::lent::{settings, state};
 use records::headings::read_heading;
 use records::sheets::check_caching;
-use records::{CACHE_LEN, Checked, Heading, MAX_RECORDS, SizeUnit};
+use records::{CACHE_LEN, Heading, MAX_RECORDS, SizeUnit};
 
 // The records from place `from` on, the first being record `first`, on a placer without a fault.
 fn walk_from(
@@ -39,7 +39,7 @@ fn walk_from(
     requires placer_value { placer_fault placer ≡ 0 }
     requires from_in_bounds { (from ≤ length text.now) × (first + most ≤ 513) }
     requires only_steps { OnlySteps (records_from unit most (drop from text.now)) × (8 * widgets (records_from unit most (drop from text.now)) ≤ length out.old) × (length sizes.now ≡ 1026) × AreCached unit most (drop from text.now) sizes.now first }
-    ensures { Answers grid memory (run_from tick spacing first placer (steps_of (records_from unit most (drop from text.now)))) out.old result out.new }
+    ensures { Answers grid memory (run_from tick spacing first placer (steps_of (records_from unit most (drop from text.now)))) out.old (passed_outcome result) out.new }
 {
     let g = placer.grid;
     let prev = g.prev_state;
@@ -78,7 +78,7 @@ fn go_on(
 ) -> Passed
     requires placer_value { placer_fault placer ≡ 0 }
     requires room { Room heading text.now (length out.old) sizes.now }
-    ensures { Answers heading.has_grid memory (run_from tick heading.spacing (heading.records + 1) placer (steps_of (records_after heading text.now))) out.old result out.new }
+    ensures { Answers heading.has_grid memory (run_from tick heading.spacing (heading.records + 1) placer (steps_of (records_after heading text.now))) out.old (passed_outcome result) out.new }
 {
     let unit = heading.unit;
     walk_from(
@@ -108,15 +108,12 @@ fn with_grid(
     out: &mut [i32],
 ) -> Passed
     requires { Room heading text.now (length out.old) sizes.now }
-    ensures { Answers heading.has_grid memory (followed heading.records (called (grid_set_by heading known memory sizing placer)) (run_from tick heading.spacing (heading.records + 1) (grid_set_by heading known memory sizing placer).placer (steps_of (records_after heading text.now)))) out.old result out.new }
+    ensures { Answers heading.has_grid memory (followed heading.records (called (grid_set_by heading known memory sizing placer)) (run_from tick heading.spacing (heading.records + 1) (grid_set_by heading known memory sizing placer).placer (steps_of (records_after heading text.now)))) out.old (passed_outcome result) out.new }
 {
-    let a = grid_set(heading, known, memory, sizing, placer);
-    let number = a.number;
-    if number != 0 {
-        return refused(number, heading.records, memory);
+    match grid_set(heading, known, memory, sizing, placer) {
+        Ok(p) => go_on(p, heading, text, sizes, memory, out),
+        Err(refusal) => refused(refusal, heading.records, memory),
     }
-    let p = a.placer;
-    go_on(p, heading, text, sizes, memory, out)
 }
 
 // H (RULES 6.13): Placer's `new`; and all that follows.
@@ -130,15 +127,12 @@ fn from_heading(
     out: &mut [i32],
 ) -> Passed
     requires { Room heading text.now (length out.old) sizes.now }
-    ensures { (result ≡ passed_of (pass_by tick (sheet_after heading text.now) known memory sizing)) × (out.new ≡ sets out.old 0 (written (pass_by tick (sheet_after heading text.now) known memory sizing).cells)) }
+    ensures { (passed_outcome result ≡ passed_of (pass_by tick (sheet_after heading text.now) known memory sizing)) × (out.new ≡ sets out.old 0 (written (pass_by tick (sheet_after heading text.now) known memory sizing).cells)) }
 {
-    let layout = heading.layout;
-    let a = Placer::new(heading.max_rect, layout);
-    let number = a.number;
-    if number != 0 {
-        return refused(number, 1, memory);
-    }
-    let p = a.placer;
+    let p = match Placer::new(heading.max_rect, heading.layout) {
+        Ok(p) => p,
+        Err(refusal) => return refused(refusal, 1, memory),
+    };
     if heading.has_grid {
         return with_grid(p, heading, text, sizes, known, memory, sizing, out);
     }
@@ -155,7 +149,7 @@ pub fn pass_cached(
     out: &mut [i32],
 ) -> Passed
     requires { Known text.now (length out.old) sizes.now }
-    ensures { Called text.now known memory sizing out.old result out.new }
+    ensures { Called text.now known memory sizing out.old (passed_outcome result) out.new }
 {
     from_heading(read_heading(text), text, sizes, known, memory, sizing, out)
 }
@@ -170,11 +164,11 @@ pub fn pass_caching(
     out: &mut [i32],
 ) -> Passed
     requires { length sizes.old ≡ 1026 }
-    ensures { Called text.now known memory sizing out.old result out.new × (sizes.new ≡ cached_by text.now sizes.old) }
+    ensures { Called text.now known memory sizing out.old (passed_outcome result) out.new × (sizes.new ≡ cached_by text.now sizes.old) }
 {
     let room = out.len();
     match check_caching(text, room, sizes) {
-        Checked::Accepted(_, _) => {
+        Ok(_) => {
             from_heading(
                 read_heading(text),
                 text,
@@ -185,14 +179,14 @@ pub fn pass_caching(
                 out,
             )
         }
-        Checked::Refused(number, at) => refused(number, at, memory),
+        Err(e) => refused(e.refusal, e.record, memory),
     }
 }
 
 // RULES 6.12: one pass over the text, with the memory where it is known, sizing or not. W that are laid out have their places in the slice,
 // which is otherwise as it was.
 pub fn pass(text: &[u8], known: bool, memory: Memory, sizing: bool, out: &mut [i32]) -> Passed
-    ensures { Called text.now known memory sizing out.old result out.new }
+    ensures { Called text.now known memory sizing out.old (passed_outcome result) out.new }
 {
     let mut sizes: [f32; CACHE_LEN] = [0.0; CACHE_LEN];
     pass_caching(text, &mut sizes, known, memory, sizing, out)

@@ -1,8 +1,10 @@
 // The plate of a pass, a frame at a time (RULES 6.19).
 ghost use Rattle.std.specs.Prelude.{◌≡◌};
 ghost use Rattle.emath.specs.Implementation.NoNaN.{Numbers};
+ghost use Rattle.sheet.specs.Implementation.Calls.{placed_of, frame_of};
 ghost use Rattle.sheet.specs.Implementation.Walks.{joined as joined_by, plate_with};
 
+use crate::Cell;
 use emath::Rect;
 use emath::unions::union_with;
 
@@ -18,13 +20,13 @@ fn joined(plate: Rect, w: usize, frame: Rect) -> Rect
     union_with(plate, frame)
 }
 
-// The plate after a record, which is W number w where `placed` is 1.
-pub fn plate_with(plate: Rect, w: usize, placed: usize, frame: Rect) -> Rect
+// The plate after a record, which may be W number w.
+pub fn plate_with(plate: Rect, w: usize, cell: Option<Cell>) -> Rect
     requires { Numbers plate }
-    ensures { result ≡ plate_with plate w placed frame }
+    ensures { result ≡ plate_with plate w (placed_of cell) (frame_of cell) }
 {
-    if placed < 1 {
-        return plate;
+    match cell {
+        None => plate,
+        Some(c) => joined(plate, w, c.frame),
     }
-    joined(plate, w, frame)
 }

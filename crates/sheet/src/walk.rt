@@ -5,15 +5,15 @@ ghost use Rattle.records.specs.Implementation.SizeCache.{AreCached};
 ghost use Rattle.placer.specs.Implementation.Lent.{placer_of};
 ghost use Rattle.sheet.specs.Implementation.Calls.{Ready};
 ghost use Rattle.sheet.specs.Texts.{steps_of};
-ghost use Rattle.sheet.specs.Implementation.Walks.{run_of, Walked, OnlySteps};
+ghost use Rattle.sheet.specs.Implementation.Walks.{Run, Comes, Walked, OnlySteps};
 
-use crate::RunResult;
+use crate::Ran;
 use crate::cells::put;
 use crate::plate::plate_with;
 use crate::steps::run_record;
 use emath::{Rect, Vec2};
 use placer::{PassState, PlacerSettings};
-use records::SizeUnit;
+use records::{SheetRefusal, SizeUnit};
 use records::records::next_record;
 use records::size_cache::cached_record;
 
@@ -34,11 +34,11 @@ pub fn run(
     heights: &mut [f32],
     spacing: Vec2,
     out: &mut [i32],
-) -> RunResult
+) -> Result<Ran, SheetRefusal>
     requires ready { Ready placer state prev_widths.now prev_heights.now widths.old heights.old }
     requires from_in_bounds { (from ≤ length text.now) × (first + most ≤ 513) }
     requires only_steps { OnlySteps (records_from unit most (drop from text.now)) × (8 * widgets (records_from unit most (drop from text.now)) ≤ length out.old) × (length sizes.now ≡ 1026) × AreCached unit most (drop from text.now) sizes.now first }
-    ensures { Walked spacing first (placer_of placer state prev_widths.now prev_heights.now widths.old heights.old) (steps_of (records_from unit most (drop from text.now))) out.old (run_of placer result prev_widths.now prev_heights.now widths.new heights.new) out.new }
+    ensures { (r : Run) × Comes placer result prev_widths.now prev_heights.now widths.new heights.new r × Walked spacing first (placer_of placer state prev_widths.now prev_heights.now widths.old heights.old) (steps_of (records_from unit most (drop from text.now))) out.old r out.new }
 {
     let mut s = state;
     let mut at = from;
@@ -48,14 +48,10 @@ pub fn run(
     let mut left = most;
     while 0 < left {
         if text.len() <= at {
-            return RunResult {
-                number: 0,
-                at: 0,
-                state: s,
-                plate,
-            };
+            return Ok(Ran { state: s, plate });
         }
-        let m = run_record(
+        let record = cached_record(text, unit, at, sizes, n);
+        let m = match run_record(
             placer,
             s,
             prev_widths,
@@ -63,29 +59,17 @@ pub fn run(
             widths,
             heights,
             spacing,
-            cached_record(text, unit, at, sizes, n),
-        );
-        let number = m.number;
-        let next = m.state;
-        if number != 0 {
-            return RunResult {
-                number,
-                at: n,
-                state: next,
-                plate,
-            };
-        }
-        plate = plate_with(plate, w, m.placed, m.frame);
-        w = put(out, w, m.placed, m.frame, m.widget);
-        s = next;
+            record,
+        ) {
+            Ok(m) => m,
+            Err(refusal) => return Err(SheetRefusal { refusal, record: n }),
+        };
+        plate = plate_with(plate, w, m.cell);
+        w = put(out, w, m.cell);
+        s = m.state;
         at = next_record(text, at);
         n += 1;
         left -= 1;
     }
-    RunResult {
-        number: 0,
-        at: 0,
-        state: s,
-        plate,
-    }
+    Ok(Ran { state: s, plate })
 }

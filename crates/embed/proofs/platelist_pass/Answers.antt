@@ -1,5 +1,5 @@
 use mathlib.Core.Path.{ap}
-use Rattle.sheet.specs.declared.Passed.{Passed}
+use Rattle.sheet.specs.Slices.{Passed}
 use Rattle.embed.proofs.Exported.{laid-plate, plate-whole, exported-is, with-save}
 use Rattle.embed.proofs.platelist_pass.Goals as goal
 

@@ -12,9 +12,9 @@ use Rattle.records.specs.Headings.{heading_in}
 use Rattle.records.specs.Sheets.{steps_left}
 use Rattle.text.specs.Letters as letters
 use Rattle.text.specs.Lines.{line, have_texts}
-use Rattle.sheet.specs.declared.Laid.{Laid}
-use Rattle.sheet.specs.declared.Laid.TheVariants as Laid-of
-use Rattle.sheet.specs.declared.Passed.{Passed}
+use Rattle.sheet.specs.Slices.{Laid}
+use Rattle.sheet.specs.Slices as Laid-of
+use Rattle.sheet.specs.Slices.{Passed}
 use Rattle.sheet.specs.Ticks.{ticks, in_ticks}
 use Rattle.sheet.specs.Slices.{edges}
 

@@ -1,8 +1,8 @@
 -- For the contracts of src/steps.rt: what the code answers for one record, as Pass.antt has it, the step being a tick.
-use Rattle.std.specs.Prelude.{ℕ, ◌≡◌, List, [], ◌∷◌, length, Float}
+use Rattle.std.specs.Prelude.{ℕ, ◌≡◌, List, [], ◌∷◌, length, Float, Option, None, Some, Result, Ok, Err}
 use Rattle.emath.specs.Numbers as number
 use Rattle.emath.specs.Steps.{tick}
-use Rattle.emath.specs.Refusals.{least, size_fault, pair_fault, edges_fault, outside}
+use Rattle.emath.specs.Refusals.{least, size_fault, pair_fault, edges_fault, outside, number_of}
 use Rattle.emath.specs.declared.Rect.{Rect}
 use Rattle.emath.specs.declared.Vec2.{Vec2}
 use Rattle.region.specs.Refusals.{zero_rect}
@@ -10,14 +10,15 @@ use Rattle.placer.specs.Refusals.{placer_fault, advance_fault}
 use Rattle.placer.specs.Operations.{checked_advance_cursor, checked_end_row, checked_set_row_height, checked_set_max_width, checked_set_max_height, checked_set_min_width, checked_set_min_height}
 use Rattle.placer.specs.Implementation.Lent.{placer_of}
 use Rattle.placer.specs.declared.Placer.{Placer}
-use Rattle.placer.specs.declared.PlacerAnswer.{PlacerAnswer}
+use Rattle.placer.specs.Refusals.{PlacerAnswer}
 use Rattle.placer.specs.declared.PlacerSettings.{PlacerSettings}
 use Rattle.placer.specs.declared.PassState.{PassState}
 use Rattle.records.specs.declared.Step.{Step}
 use Rattle.records.specs.declared.Step.TheVariants.{Widget, Space, RowHeight, MaxWidth, MaxHeight, MinWidth, MinHeight, RowEnd}
 use Rattle.records.specs.Records.{Record}
-use Rattle.std.specs.Prelude.{None, Some}
-use Rattle.sheet.specs.declared.StepResult.{StepResult}
+use Rattle.emath.specs.declared.Refusal.{Refusal}
+use Rattle.sheet.specs.declared.Cell.{Cell as Placed}
+use Rattle.sheet.specs.declared.Stepped.{Stepped}
 use Rattle.sheet.specs.Pass.{cell_of, widget_step}
 
 -- what a record gives: its number (0: none), the placer after it; how many W it is, 1 or 0, and a W's rectangles
@@ -28,9 +29,23 @@ pub record CallResult : Type 0 where
   pub frame : Rect
   pub widget : Rect
 
--- the code's answer, its placer with the arrays that are lent
-abbrev pub result_of : PlacerSettings → StepResult → List Float → List Float → List Float → List Float → CallResult
-result_of p m pw ph ws hs = record { number = m.number; placer = placer_of p m.state pw ph ws hs; placed = m.placed; frame = m.frame; widget = m.widget }
+-- how many W a cell is, and its rectangles
+abbrev pub placed_of : Option Placed → ℕ
+placed_of None = 0
+placed_of (Some c) = 1
+
+abbrev pub frame_of : Option Placed → Rect
+frame_of None = zero_rect
+frame_of (Some c) = c.frame
+
+abbrev pub widget_of : Option Placed → Rect
+widget_of None = zero_rect
+widget_of (Some c) = c.widget
+
+-- the code's answer is this, its placer with the arrays that are lent: of a refusal the number counts
+abbrev pub Gives : PlacerSettings → Result Stepped Refusal → List Float → List Float → List Float → List Float → CallResult → Type 0
+Gives p (Ok m) pw ph ws hs c = c ≡ record { number = 0; placer = placer_of p m.state pw ph ws hs; placed = placed_of m.cell; frame = frame_of m.cell; widget = widget_of m.cell }
+Gives p (Err e) pw ph ws hs c = c.number ≡ number_of e
 
 -- a placer without a fault, and arrays that are as long as a memory's
 pub record Ready (p : PlacerSettings) (s : PassState) (pw ph ws hs : List Float) : Type 0 where

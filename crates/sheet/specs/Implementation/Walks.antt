@@ -1,9 +1,12 @@
 -- For the contracts of src/walk.rt, cells.rt, plate.rt, outcomes.rt and passing.rt: a run over a text as the code has it, with the grid's
 -- arrays lent and the rectangles in the slice.
-use Rattle.std.specs.Prelude.{ℕ, ◌+◌, ◌-◌, ◌*◌, ◌≤◌, ◌≡◌, Bool, cond, List, [], ◌∷◌, ◌++◌, ℤ, ltb, length, drop, Float}
+use Rattle.std.specs.Prelude.{ℕ, ◌+◌, ◌-◌, ◌*◌, ◌≤◌, ◌≡◌, Bool, cond, List, [], ◌∷◌, ◌++◌, ℤ, ltb, length, drop, Float, Result, Ok, Err}
 use Rattle.std.proofs.lemmas.List.Edits.{sets}
 use Rattle.emath.specs.Rectangles.{union}
 use Rattle.emath.specs.Steps.{tick}
+use Rattle.emath.specs.Refusals.{number_of}
+use Rattle.emath.specs.declared.Refusal.{Refusal}
+use Rattle.placer.specs.Refusals.{PlacerAnswer}
 use Rattle.emath.specs.declared.Rect.{Rect}
 use Rattle.emath.specs.declared.Vec2.{Vec2}
 use Rattle.grid.specs.declared.Memory.{Memory}
@@ -18,8 +21,10 @@ use Rattle.records.specs.declared.Step.{Step}
 use Rattle.records.specs.Records.{Record}
 use Rattle.std.specs.Prelude.{Some}
 use Rattle.records.specs.Sheets as checked-of
-use Rattle.sheet.specs.declared.RunResult.{RunResult}
-use Rattle.sheet.specs.declared.Passed.{Passed}
+use Rattle.records.specs.declared.SheetRefusal.{SheetRefusal}
+use Rattle.sheet.specs.declared.Cell.{Cell as Placed}
+use Rattle.sheet.specs.declared.Ran.{Ran as Came}
+use Rattle.sheet.specs.Slices.{Passed}
 use Rattle.sheet.specs.Pass.{Sheet, Cell, Ran, run_from, plate_of, outcome_of}
 use Rattle.sheet.specs.Texts.{steps_of}
 use Rattle.sheet.specs.Ticks.{in_ticks}
@@ -46,9 +51,15 @@ pub record Run : Type 0 where
   pub placer : Placer
   pub plate : Rect
 
--- the code's answer, its placer with the arrays that are lent
-abbrev pub run_of : PlacerSettings → RunResult → List Float → List Float → List Float → List Float → Run
-run_of p r pw ph ws hs = record { number = r.number; at = r.at; placer = placer_of p r.state pw ph ws hs; plate = r.plate }
+-- the code's answer is this, its placer with the arrays that are lent: of a refusal the number and the record count
+abbrev pub Comes : PlacerSettings → Result Came SheetRefusal → List Float → List Float → List Float → List Float → Run → Type 0
+Comes p (Ok a) pw ph ws hs r = r ≡ record { number = 0; at = 0; placer = placer_of p a.state pw ph ws hs; plate = a.plate }
+Comes p (Err e) pw ph ws hs r = (r.number ≡ number_of e.refusal) × (r.at ≡ e.record)
+
+-- the code's answer to a call that gives a placer is this
+abbrev pub Sets : Result Placer Refusal → PlacerAnswer → Type 0
+Sets (Ok p) a = a ≡ record { number = 0; placer = p }
+Sets (Err e) a = a.number ≡ number_of e
 
 -- as a run of Pass.antt, with the rectangles cs
 abbrev pub ran_of : List Cell → Run → Ran

@@ -1,4 +1,5 @@
+use Rattle.sheet.proofs.Returned.{laid-refused}
 use Rattle.sheet.proofs.outcomes.refused.Goals as goal
 
 pub returns : goal.returns
-returns c = rw c.laid_of-laid.ensures
+returns c = rw (laid-refused c.args.refusal c.args.at)

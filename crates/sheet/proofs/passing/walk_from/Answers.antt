@@ -13,6 +13,7 @@ run-r-requires c =
 
 pub returns : goal.returns
 returns c =
-    let e = rw (c.state.ensures, c.settings-b.ensures, c.heights_of-heights.ensures, c.widths_of-widths.ensures, c.heights_of-prev_heights.ensures, c.widths_of-prev_widths.ensures) at c.run-r.ensures in
-    let f = rw c.settings-b.ensures at c.finish.ensures in
-    run-answers _ _ _ _ _ _ _ _ _ _ e (f _)
+    let w = c.run-r.ensures in
+    let e = rw (c.state.ensures, c.settings-b.ensures, c.heights_of-heights.ensures, c.widths_of-widths.ensures, c.heights_of-prev_heights.ensures, c.widths_of-prev_widths.ensures) at w.2 in
+    let k = rw (c.heights_of-prev_heights.ensures, c.widths_of-prev_widths.ensures) at w.1 in
+    run-answers _ _ _ _ _ _ _ _ _ _ e (c.finish.ensures w.0 _ k)

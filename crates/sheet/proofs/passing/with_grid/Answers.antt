@@ -1,12 +1,16 @@
+use Rattle.std.proofs.Common.{refl, sym}
+use Rattle.emath.proofs.Refusals.{number-none}
 use Rattle.sheet.proofs.Stepping.{grid-set-none}
 use Rattle.sheet.proofs.WalkedPasses.{refused-answers, began-answers}
 use Rattle.sheet.proofs.passing.with_grid.Goals as goal
 
-pub returns-then-number-ne0 : goal.returns-then-number-ne0
-returns-then-number-ne0 c = rw (← c.grid_set-a.ensures) (refused-answers _ _ _ _ _ _ _ c.if-number-ne0.true c.refused.ensures)
-
 pub go_on-requires : goal.go_on-requires
-go_on-requires c = record { placer_value = grid-set-none _ _ _ _ _ _ c.grid_set-a.ensures c.if-number-ne0.false; room = c.requires }
+go_on-requires c =
+    let s = rw c.in-Ok.is at c.grid_set.ensures in
+    record { placer_value = grid-set-none _ _ _ _ _ (record { number = 0; placer = c.in-Ok.p }) (sym s) refl; room = c.requires }
 
-pub returns : goal.returns
-returns c = rw (← c.grid_set-a.ensures) (began-answers _ _ _ _ _ _ _ _ c.if-number-ne0.false c.go_on.ensures)
+pub returns-in-Ok : goal.returns-in-Ok
+returns-in-Ok c = let s = rw c.in-Ok.is at c.grid_set.ensures in rw s (began-answers _ _ _ _ _ _ _ _ refl c.go_on.ensures)
+
+pub returns-in-Err : goal.returns-in-Err
+returns-in-Err c = let s = rw c.in-Err.is at c.grid_set.ensures in refused-answers _ _ _ _ _ _ _ (number-none _ _ s) (rw s c.refused.ensures)

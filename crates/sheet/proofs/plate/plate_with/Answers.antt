@@ -1,11 +1,11 @@
-use borrow.Author.Tests.{lt-ltb, le-ltb}
+use Rattle.std.proofs.Common.{refl}
 use Rattle.sheet.specs.Implementation.Walks.{plate_with}
 use Rattle.sheet.proofs.plate.plate_with.Goals as goal
 
-pub returns-then-placed-lt1 : goal.returns-then-placed-lt1
+pub returns-in-None : goal.returns-in-None
 unfolding plate_with
-returns-then-placed-lt1 c = rw (lt-ltb _ _ c.if-placed-lt1.true)
+returns-in-None c = rw c.in-None.is refl
 
-pub returns : goal.returns
+pub returns-in-Some : goal.returns-in-Some
 unfolding plate_with
-returns c = rw (le-ltb _ _ c.if-placed-lt1.false) c.joined.ensures
+returns-in-Some c = rw c.in-Some.is c.joined.ensures

@@ -1,4 +1,5 @@
-use mathlib.Core.Path.{ap, sym, ◌∙◌}
+use mathlib.Core.Path.{refl, ap, sym, ◌∙◌}
+use Rattle.emath.proofs.Refusals.{number-none}
 use native.Mathlib.Omega.{arith}
 use Rattle.emath.specs.Steps.{tick}
 use Rattle.placer.specs.Implementation.Lent.{placer_of}
@@ -17,30 +18,31 @@ returns-then-text-at c =
     let a = c.args in
     let l = c.loop-left in
     let p = placer_of a.placer l.s a.prev_widths.now a.prev_heights.now l.widths l.heights in
-    as-walked _ _ _ _ _ _ _ _ _ c.requires.only_steps.0 (walk_ends _ a.text.now a.spacing l.left l.n l.at l.w p l.out l.plate _ l.invariant.5 c.if-text-at.true)
+    (record { number = 0; at = 0; placer = p; plate = l.plate }, refl, as-walked _ _ _ _ _ _ _ _ _ c.requires.only_steps.0 (walk_ends _ a.text.now a.spacing l.left l.n l.at l.w p l.out l.plate _ l.invariant.5 c.if-text-at.true))
 
-pub cached_record-requires : goal.cached_record-requires
-cached_record-requires c =
+pub cached_record-record-requires : goal.cached_record-record-requires
+cached_record-record-requires c =
     let l = c.loop-left in
     record { n_bound = (omega (arith, l.invariant.2, c.loop-left-test.true, c.requires.from_in_bounds.1), c.requires.only_steps.2); cached = cached-here _ c.args.text.now c.args.sizes.now l.at l.n l.left l.invariant.6 c.loop-left-test.true c.if-text-at.false }
 
-pub run_record-m-requires : goal.run_record-m-requires
-run_record-m-requires c = c.loop-left.invariant.4
+pub run_record-requires : goal.run_record-requires
+run_record-requires c = c.loop-left.invariant.4
 
-pub shape_of-widths-then-number-ne0 : goal.shape_of-widths-then-number-ne0
-shape_of-widths-then-number-ne0 c = c.run_record-m.auto.widths ∙ c.loop-left.invariant.4.cols ∙ sym c.requires.ready.cols
+pub shape_of-widths-in-Err : goal.shape_of-widths-in-Err
+shape_of-widths-in-Err c = c.run_record.auto.widths ∙ c.loop-left.invariant.4.cols ∙ sym c.requires.ready.cols
 
-pub shape_of-heights-then-number-ne0 : goal.shape_of-heights-then-number-ne0
-shape_of-heights-then-number-ne0 c = c.run_record-m.auto.heights ∙ c.loop-left.invariant.4.rows ∙ sym c.requires.ready.rows
+pub shape_of-heights-in-Err : goal.shape_of-heights-in-Err
+shape_of-heights-in-Err c = c.run_record.auto.heights ∙ c.loop-left.invariant.4.rows ∙ sym c.requires.ready.rows
 
-pub returns-then-number-ne0 : goal.returns-then-number-ne0
-returns-then-number-ne0 c =
+pub returns-in-Err : goal.returns-in-Err
+returns-in-Err c =
     let a = c.args in
     let l = c.loop-left in
     let p = placer_of a.placer l.s a.prev_widths.now a.prev_heights.now l.widths l.heights in
-    let em = c.run_record-m.ensures ∙ ap (λ (x : Record). record_result p a.spacing x) c.cached_record.ensures in
-    let t = turn a.unit a.text.now a.spacing l.left l.n l.at l.w p l.out l.plate _ l.invariant.5 c.loop-left-test.true c.if-text-at.false _ em in
-    as-walked _ _ _ _ _ _ _ _ _ c.requires.only_steps.0 (t.stops c.if-number-ne0.true)
+    let m = record_result p a.spacing c.cached_record-record.result in
+    let g = rw c.in-Err.is at c.run_record.ensures in
+    let t = turn a.unit a.text.now a.spacing l.left l.n l.at l.w p l.out l.plate _ l.invariant.5 c.loop-left-test.true c.if-text-at.false m (ap (λ (x : Record). record_result p a.spacing x) c.cached_record-record.ensures) in
+    (record { number = m.number; at = l.n; placer = m.placer; plate = l.plate }, (g, refl), as-walked _ _ _ _ _ _ _ _ _ c.requires.only_steps.0 (t.stops (number-none _ _ g)))
 
 pub plate_with-plate-requires : goal.plate_with-plate-requires
 plate_with-plate-requires c = rect-numbers c.loop-left.invariant.7
@@ -50,10 +52,11 @@ put-w-requires c =
     let a = c.args in
     let l = c.loop-left in
     let p = placer_of a.placer l.s a.prev_widths.now a.prev_heights.now l.widths l.heights in
-    let em = c.run_record-m.ensures ∙ ap (λ (x : Record). record_result p a.spacing x) c.cached_record.ensures in
+    let g = rw c.in-Ok.is at c.run_record.ensures in
+    let em = sym g ∙ ap (λ (x : Record). record_result p a.spacing x) c.cached_record-record.ensures in
     let t = turn a.unit a.text.now a.spacing l.left l.n l.at l.w p l.out l.plate _ l.invariant.5 c.loop-left-test.true c.if-text-at.false _ em in
     let r = t.room l.invariant.3 in
-    record { placed_in_bounds = (omega (arith, r), t.few); whole_rect = t.in-ticks c.if-number-ne0.false }
+    record { placed_in_bounds = omega (arith, r); whole_rect = t.in-ticks refl }
 
 pub overflow_add-n : goal.overflow_add-n
 overflow_add-n c = search (rules, c.loop-left.invariant.2, c.loop-left-test.true, c.requires.from_in_bounds.1)
@@ -69,20 +72,21 @@ loop-left-preserved c =
     let a = c.args in
     let l = c.loop-left in
     let p = placer_of a.placer l.s a.prev_widths.now a.prev_heights.now l.widths l.heights in
-    let em = c.run_record-m.ensures ∙ ap (λ (x : Record). record_result p a.spacing x) c.cached_record.ensures in
+    let g = rw c.in-Ok.is at c.run_record.ensures in
+    let em = sym g ∙ ap (λ (x : Record). record_result p a.spacing x) c.cached_record-record.ensures in
     let t = turn a.unit a.text.now a.spacing l.left l.n l.at l.w p l.out l.plate _ l.invariant.5 c.loop-left-test.true c.if-text-at.false _ em in
     let e = c.next_record-at.ensures in
     let u = c.put-w.ensures in
     let k = c.put-w.auto.out in
     let r = t.room l.invariant.3 in
-    (k ∙ l.invariant.0, rw e (next-within a.text.now l.at), omega (arith, l.invariant.2, c.loop-left-test.true), rw (e, u.0) (omega (arith, r, k)), record { none = t.unfaulted c.if-number-ne0.false; cols = c.run_record-m.auto.widths ∙ l.invariant.4.cols; rows = c.run_record-m.auto.heights ∙ l.invariant.4.rows }, rw (e, u.0, u.1, c.plate_with-plate.ensures) (t.goes_on c.if-number-ne0.false), rw e (still-cached _ a.text.now a.sizes.now l.at l.n l.left l.invariant.6), rw c.plate_with-plate.ensures (with-whole l.w _ l.invariant.7 (λ i. (t.in-ticks c.if-number-ne0.false i).0)))
+    (k ∙ l.invariant.0, rw e (next-within a.text.now l.at), omega (arith, l.invariant.2, c.loop-left-test.true), rw (e, u.0) (omega (arith, r, k)), record { none = t.unfaulted refl; cols = c.run_record.auto.widths ∙ l.invariant.4.cols; rows = c.run_record.auto.heights ∙ l.invariant.4.rows }, rw (e, u.0, u.1, c.plate_with-plate.ensures) (t.goes_on refl), rw e (still-cached _ a.text.now a.sizes.now l.at l.n l.left l.invariant.6), rw c.plate_with-plate.ensures (with-whole l.w _ l.invariant.7 (λ i. (t.in-ticks refl i).0)))
 
 pub returns : goal.returns
 returns c =
     let a = c.args in
     let l = c.loop-left in
     let p = placer_of a.placer l.s a.prev_widths.now a.prev_heights.now l.widths l.heights in
-    as-walked _ _ _ _ _ _ _ _ _ c.requires.only_steps.0 (walk-is-full _ a.text.now a.spacing l.left l.n l.at l.w p l.out l.plate _ l.invariant.5 c.loop-left-test.false)
+    (record { number = 0; at = 0; placer = p; plate = l.plate }, refl, as-walked _ _ _ _ _ _ _ _ _ c.requires.only_steps.0 (walk-is-full _ a.text.now a.spacing l.left l.n l.at l.w p l.out l.plate _ l.invariant.5 c.loop-left-test.false))
 
 pub loop-left-init : goal.loop-left-init
 loop-left-init c = search (rules, zero-rect tick)

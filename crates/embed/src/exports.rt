@@ -4,13 +4,14 @@ ghost use Rattle.std.proofs.lemmas.List.Edits.{sets};
 ghost use Rattle.emath.specs.Steps.{tick};
 ghost use Rattle.region.specs.Steps.{WholeRect};
 ghost use Rattle.sheet.specs.Ticks.{in_ticks};
-ghost use Rattle.sheet.specs.Slices.{edges, laid_number, laid_record};
+ghost use Rattle.sheet.specs.Slices.{edges, laid_number, laid_record, laid_outcome};
 ghost use Rattle.grid.specs.Memories.{memory_of};
 
 use emath::Rect;
 use grid::Memory;
+use records::SheetRefusal;
+use sheet::Passed;
 use sheet::cells::tick;
-use sheet::{Laid, Passed};
 
 pub(crate) fn memory_of(
     widths: &[f32; 32],
@@ -60,17 +61,17 @@ fn put_plate(plate: &mut [i32; 4], rect: Rect)
 }
 
 // The number and the record, 0 and 0 where the pass is accepted.
-fn put_laid(at: &mut usize, laid: Laid) -> u8
-    ensures { (result ≡ laid_number laid) × (at.new ≡ laid_record laid) }
+fn put_laid(at: &mut usize, laid: Result<(), SheetRefusal>) -> u8
+    ensures { (result ≡ laid_number (laid_outcome laid)) × (at.new ≡ laid_record (laid_outcome laid)) }
 {
     match laid {
-        Laid::Accepted => {
+        Ok(()) => {
             *at = 0;
             0
         }
-        Laid::Refused(number, record) => {
-            *at = record;
-            number
+        Err(e) => {
+            *at = e.record;
+            e.refusal.number()
         }
     }
 }
@@ -85,13 +86,11 @@ pub(crate) fn put_passed(
     p: Passed,
 ) -> u8
     requires { WholeRect tick p.plate }
-    ensures { ((result ≡ laid_number p.laid) × (at.new ≡ laid_record p.laid)) × ((plate.new ≡ edges (in_ticks tick p.plate)) × (memory_of widths.new cols.new heights.new rows.new ≡ p.memory)) }
+    ensures { ((result ≡ laid_number (laid_outcome p.laid)) × (at.new ≡ laid_record (laid_outcome p.laid))) × ((plate.new ≡ edges (in_ticks tick p.plate)) × (memory_of widths.new cols.new heights.new rows.new ≡ p.memory)) }
 {
     put_plate(plate, p.plate);
-    let memory = p.memory;
-    put_memory(widths, cols, heights, rows, memory);
-    let laid = p.laid;
-    put_laid(at, laid)
+    put_memory(widths, cols, heights, rows, p.memory);
+    put_laid(at, p.laid)
 }
 
 // The first n bytes, where there is room for them; else nothing.

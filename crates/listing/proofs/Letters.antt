@@ -6,7 +6,7 @@ use mathlib.Core.List.{List, [], ◌∷◌}
 use Rattle.records.specs.Records.{record_of}
 use Rattle.records.specs.Controls.{only_controls}
 use Rattle.records.specs.Sheets.{widget, widget_step}
-use Rattle.records.specs.Implementation.SizeCache.{is_step}
+use Rattle.records.proofs.Reached.{is_step}
 use Rattle.records.specs.declared.SizeUnit.{SizeUnit}
 use Rattle.records.specs.declared.Step.{Step}
 use Rattle.records.specs.declared.Step.TheVariants.{Widget, Space, RowHeight, MaxWidth, MaxHeight, MinWidth, MinHeight, RowEnd}

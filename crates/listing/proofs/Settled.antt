@@ -21,7 +21,9 @@ use Rattle.records.specs.Sheets as checked-of
 use Rattle.sheet.specs.Pass.{Outcome, refused_at, pass}
 use Rattle.sheet.specs.Passes.{passes}
 use Rattle.sheet.specs.Texts.{sheet_in}
-use Rattle.sheet.specs.Slices.{LaidOut, laid_of, laid_number, passed_of, after_check, laid, Returns, Called}
+use Rattle.std.specs.Prelude.{Result, Ok, Err, is_ok}
+use Rattle.records.specs.declared.SheetRefusal.{SheetRefusal}
+use Rattle.sheet.specs.Slices.{LaidOut, laid_of, laid_number, laid_outcome, passed_of, after_check, laid, Returns, Called}
 use Rattle.sheet.specs.Implementation.Walks.{Known}
 use Rattle.sheet.specs.Slices.{Passed}
 use Rattle.sheet.proofs.Returned.{called}
@@ -155,3 +157,9 @@ pub settled-untouched : (text : List ℕ) (out : List ℤ) (n at : ℕ) → chec
     → settled text out ≡ record { outcome = refused_at n at [] empty_memory; slice = out }
 unfolding settled settled_from laid after_check
 settled-untouched text out n at e = rw (e, ne_eqb n 0 (λ (z : n ≡ 0). omega (arith, z, some_number text (length out) n at e)))
+
+-- whether a pass is accepted
+pub laid-ok : (r : Result (Unit {0}) SheetRefusal) → is_accepted (laid_outcome r) ≡ is_ok r
+unfolding is_accepted
+laid-ok (Ok u) = refl
+laid-ok (Err e) = refl

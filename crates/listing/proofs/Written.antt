@@ -22,7 +22,7 @@ use Rattle.records.specs.declared.SizeUnit.{SizeUnit}
 use Rattle.records.specs.Records.{record_of, rest}
 use Rattle.records.specs.Headings.{heading_in}
 use Rattle.records.specs.Sheets.{records_from, steps_left, records, wrong_from, widget, widgets}
-use Rattle.records.specs.Implementation.SizeCache.{is_step}
+use Rattle.records.proofs.Reached.{is_step}
 use Rattle.records.specs.Records.{Record}
 use Rattle.std.specs.Prelude.{None, Some}
 use Rattle.sheet.specs.Pass.{Cell}

@@ -1,6 +1,7 @@
 // The lines of a list (RULES 7.4 to 7.6): each function answers where the next line begins.
 ghost use Rattle.std.specs.Prelude.{◌≡◌, ◌∷◌, [], ◌+◌, ◌≤◌, ◌<◌, pos, length, get_or, drop};
 ghost use Rattle.text.specs.Letters as letters;
+ghost use Rattle.emath.specs.Refusals.{number_of};
 ghost use Rattle.emath.specs.Steps.{tick, Edge};
 ghost use Rattle.region.specs.Steps.{WholeRect};
 ghost use Rattle.records.specs.Headings.{heading_in};
@@ -9,7 +10,7 @@ ghost use Rattle.sheet.specs.Ticks.{ticks, in_ticks};
 ghost use Rattle.sheet.specs.Slices.{edges};
 ghost use Rattle.listing.specs.Implementation.ListWriter.{put_line, mark, put_widget, put_widgets, put_entries, put_memory, Whole, WholeMemory};
 
-use emath::Rect;
+use emath::{Rect, Refusal};
 use grid::Memory;
 use records::MAX_RECORDS;
 use records::headings::read_heading;
@@ -28,11 +29,11 @@ fn put_line(out: &mut [u8], at: usize, letter: u8, numbers: &[i32]) -> usize
 }
 
 // X: the refusal's number, and the record's.
-pub fn put_refusal(out: &mut [u8], number: u8, record: usize) -> usize
+pub fn put_refusal(out: &mut [u8], refusal: Refusal, record: usize) -> usize
     requires { «record» ≤ 600 }
-    ensures { (record { at = result; out = out.new } ≡ put_line letters.X (pos number ∷ pos «record» ∷ []) (record { at = 0; out = out.old })) × (number < 256) }
+    ensures { (record { at = result; out = out.new } ≡ put_line letters.X (pos (number_of refusal) ∷ pos «record» ∷ []) (record { at = 0; out = out.old })) × (number_of refusal < 256) }
 {
-    let numbers = [number as i32, record as i32];
+    let numbers = [refusal.number() as i32, record as i32];
     put_line(out, 0, b'X', &numbers)
 }
 

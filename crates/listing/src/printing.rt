@@ -2,9 +2,9 @@
 ghost use Rattle.std.specs.Prelude.{◌≡◌, ◌≤◌, ◌<◌};
 ghost use Rattle.emath.specs.Steps.{tick};
 ghost use Rattle.region.specs.Steps.{WholeRect};
-ghost use Rattle.sheet.specs.Slices.{laid_number, Returns};
+ghost use Rattle.sheet.specs.Slices.{laid_number, laid_outcome, passed_outcome, Returns};
 ghost use Rattle.listing.specs.Lists.{settled, list_in};
-ghost use Rattle.listing.specs.Implementation.ListWriter.{is_accepted, put_accepted, put_passed, WholeMemory, Printable};
+ghost use Rattle.listing.specs.Implementation.ListWriter.{put_accepted, put_passed, WholeMemory, Printable};
 
 use crate::lines::{put_memory, put_plate, put_refusal, put_widgets};
 use crate::{MAX_LIST, PLACES};
@@ -14,16 +14,7 @@ use grid::memories::empty_memory;
 use records::CACHE_LEN;
 use records::headings::has_grid;
 use sheet::passing::{pass_cached, pass_caching};
-use sheet::{Laid, Passed};
-
-fn is_accepted(laid: Laid) -> bool
-    ensures { result ≡ is_accepted laid }
-{
-    match laid {
-        Laid::Accepted => true,
-        Laid::Refused(_, _) => false,
-    }
-}
+use sheet::Passed;
 
 // An accepted pass: W for each control, P, then C and D. Without a grid the memory is empty, and there is neither.
 fn put_accepted(out: &mut [u8], text: &[u8], cells: &[i32], plate: Rect, memory: Memory) -> usize
@@ -37,30 +28,24 @@ fn put_accepted(out: &mut [u8], text: &[u8], cells: &[i32], plate: Rect, memory:
 
 // The lines of the pass that is printed.
 fn put_passed(out: &mut [u8], text: &[u8], cells: &[i32], p: Passed) -> usize
-    requires { Printable p }
-    ensures { (record { at = result; out = out.new } ≡ put_passed p.laid text.now cells.now p (record { at = 0; out = out.old })) × (laid_number p.laid < 256) }
+    requires { Printable (passed_outcome p) }
+    ensures { (record { at = result; out = out.new } ≡ put_passed (laid_outcome p.laid) text.now cells.now (passed_outcome p) (record { at = 0; out = out.old })) × (laid_number (laid_outcome p.laid) < 256) }
 {
-    let laid = p.laid;
-    match laid {
-        Laid::Accepted => {
-            let memory = p.memory;
-            put_accepted(out, text, cells, p.plate, memory)
-        }
-        Laid::Refused(number, record) => put_refusal(out, number, record),
+    match p.laid {
+        Ok(()) => put_accepted(out, text, cells, p.plate, p.memory),
+        Err(e) => put_refusal(out, e.refusal, e.record),
     }
 }
 
 // One pass, or with a grid a second one with the memory of the first: what the last one gives, and its rectangles in `cells`.
 pub fn settle(text: &[u8], cells: &mut [i32]) -> Passed
-    ensures { Returns (settled text.now cells.old) result cells.new }
+    ensures { Returns (settled text.now cells.old) (passed_outcome result) cells.new }
 {
     let mut sizes: [f32; CACHE_LEN] = [0.0; CACHE_LEN];
     let none = empty_memory();
     let first = pass_caching(text, &mut sizes, false, none, true, cells);
-    let laid = first.laid;
-    if is_accepted(laid) & has_grid(text) {
-        let memory = first.memory;
-        return pass_cached(text, &sizes, true, memory, false, cells);
+    if first.laid.is_ok() & has_grid(text) {
+        return pass_cached(text, &sizes, true, first.memory, false, cells);
     }
     first
 }

@@ -6,7 +6,7 @@ use probe_values::rects::number_of_align;
 use records::headings::{heading_fault, read_heading};
 use records::records::read_record;
 use records::sheets::check;
-use records::{Checked, Heading, Record, SizeUnit, Step};
+use records::{Heading, SizeUnit, Step};
 use text::Field;
 use text::fields::{read_field, write_field};
 use text::lines::write_line;
@@ -134,8 +134,8 @@ pub extern "C" fn record_read(
     lengths: &mut [f32; 2],
 ) -> u8 {
     match read_record(text, unit_of(hundredths), at) {
-        Record::Step(st) => put_step(lengths, st),
-        Record::Wrong => 0,
+        Some(st) => put_step(lengths, st),
+        None => 0,
     }
 }
 
@@ -143,14 +143,14 @@ pub extern "C" fn record_read(
 #[unsafe(no_mangle)]
 pub extern "C" fn sheet_check(text: &[u8], room: usize, counts: &mut [usize; 2]) -> u8 {
     match check(text, room) {
-        Checked::Accepted(records, widgets) => {
-            counts[0] = records;
-            counts[1] = widgets;
+        Ok(c) => {
+            counts[0] = c.records;
+            counts[1] = c.widgets;
             0
         }
-        Checked::Refused(number, record) => {
-            counts[0] = record;
-            number
+        Err(e) => {
+            counts[0] = e.record;
+            e.refusal.number()
         }
     }
 }

@@ -4,19 +4,19 @@
 use probe_values::grids::{memory_of, put_memory};
 use probe_values::layouts::count_of_flag;
 use probe_values::packing::{Counts, KNOWN, Lengths, PLACE, RECT, SAVE, SIZING_PASS, put_rect_at};
-use sheet::Laid;
+use records::SheetRefusal;
 use sheet::passing::pass;
 
 // The number, 0 for none, and the record, 0 for none too.
-fn put_laid(counts: &mut Counts, laid: Laid) -> u8 {
+fn put_laid(counts: &mut Counts, laid: Result<(), SheetRefusal>) -> u8 {
     match laid {
-        Laid::Accepted => {
+        Ok(()) => {
             counts[PLACE] = 0;
             0
         }
-        Laid::Refused(number, record) => {
-            counts[PLACE] = record;
-            number
+        Err(e) => {
+            counts[PLACE] = e.record;
+            e.refusal.number()
         }
     }
 }
@@ -35,6 +35,5 @@ pub extern "C" fn sheet_pass(
     put_rect_at(out_lengths, RECT, p.plate);
     put_memory(out_lengths, out_counts, p.memory);
     out_counts[SAVE] = count_of_flag(p.save);
-    let laid = p.laid;
-    put_laid(out_counts, laid)
+    put_laid(out_counts, p.laid)
 }

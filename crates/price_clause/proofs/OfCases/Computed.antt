@@ -195,7 +195,7 @@ wider : NoSmaller (record { width = pos 113; height = pos 635 }) (record { width
 wider = record { width = record { le = tt }; height = record { le = tt } }
 
 pub computed : Computed
-unfolding rectangles.min_f rectangles.max_f rectangles.translate rectangles.intersect rectangles.union rectangles.extend_with_x rectangles.extend_with_y rectangles.intersects rectangles.centred rectangles.aligned_to rectangles.align_on rectangles.align_within rectangles.round_f rectangles.round_by rectangles.round_rect domain.finite domain.within domain.both_of domain.edges_of domain.negative domain.inside_out refusals.lesser refusals.least refusals.or_else refusals.length_fault refusals.pair_fault refusals.edges_fault refusals.extent_fault refusals.size_fault refusals.rect_fault refusals.outside steps.val directions.is_horizontal layouts.is_right_to_left layouts.is_center layouts.is_max layouts.prefer_right_to_left layouts.placement layouts.horizontal_align layouts.vertical_align layouts.align2 layouts.horizontal_justify layouts.vertical_justify regions.expand_to_include_rect regions.expand_to_include_x regions.expand_to_include_y layout-rules.align_size_within_rect layout-rules.initial_cursor layout-rules.from_cursor layout-rules.not_negative layout-rules.not_negative_rect layout-rules.available_from_cursor_max_rect layout-rules.available_rect_before_wrap layout-rules.available_size layout-rules.overflows layout-rules.new_row layout-rules.new_column layout-rules.new_cursor layout-rules.reaching layout-rules.new_region layout-rules.fills_width layout-rules.fills_height layout-rules.frame_width layout-rules.frame_height layout-rules.frame_align2 layout-rules.moved_down layout-rules.frame_rect layout-rules.next_frame_ignore_wrap layout-rules.wraps layout-rules.next_frame layout-rules.raised layout-rules.justify_and_align layout-rules.next_widget_space_ignore_wrap_justify layout-rules.next_widget_position layout-rules.region_from_max_rect layout-rules.advance_cursor layout-rules.stays_in_row layout-rules.row_started layout-rules.grown_across layout-rules.row_for layout-rules.past_widget layout-rules.advance_after_rects layout-rules.next_row layout-rules.end_row layout-rules.set_row_height layout-refusals.zero_if_open layout-refusals.closed layout-refusals.cursor_fault layout-refusals.region_fault layout-refusals.rect_answer layout-refusals.pos_answer layout-refusals.size_answer layout-refusals.region_answer layout-refusals.cursor_answer layout-refusals.rect_number layout-refusals.rect_value layout-refusals.pos_number layout-refusals.pos_value layout-refusals.size_number layout-refusals.size_value entries.entry entries.cleared entries.raised entries.total_from entries.same_entries entries.entries_fault entries.zeros memories.capped memories.raised_count memories.set_min_col_width memories.set_min_row_height memories.col_width memories.row_height memories.full_width memories.same_memory grids.known_memory grids.new_grid grids.prev_col_width grids.prev_row_height grids.last_width grids.other_width grids.cell_width grids.cell_height grids.available_rect grids.next_width grids.next_cell grids.align_size_within_rect grids.noted grids.advanced grids.advance grids.row_ended grids.end_row grids.save grid-refusals.memory_fault grid-refusals.max_cell_fault grid-refusals.grid_fault grid-refusals.fits_grid grid-refusals.direction_fault grid-refusals.moved_fault grid-refusals.memory_answer grid-refusals.grid_answer grid-refusals.moved_answer grid-refusals.saved_answer grid-refusals.length_answer grid-refusals.entry_answer grid-refusals.length_number grid-refusals.length_value grid-operations.checked_set_min_col_width grid-operations.checked_set_min_row_height grid-operations.checked_col_width grid-operations.checked_row_height grid-operations.checked_full_width grid-operations.checked_new grid-operations.checked_prev_col_width grid-operations.checked_prev_row_height grid-operations.checked_available_rect grid-operations.checked_next_cell grid-operations.checked_align_size_within_rect grid-operations.checked_advance grid-operations.checked_end_row grid-operations.checked_save placer-rules.new_placer placer-rules.save_grid placer-rules.force_set_min_rect placer-rules.set_cursor placer-rules.align_size_within_rect placer-rules.available placer-rules.available_rect_before_wrap placer-rules.available_size placer-rules.next_space placer-rules.next_widget_position placer-rules.justify_and_align placer-rules.advance_cursor placer-rules.expand_to_include_rect placer-rules.expand_to_include_x placer-rules.expand_to_include_y placer-rules.moved_past placer-rules.advance_after_rects placer-rules.end_row placer-rules.set_row_height placer-rules.next_widget_space_ignore_wrap_justify placer-rules.limited_across placer-rules.limited_down placer-rules.set_max_width placer-rules.set_max_height placer-rules.grown_across placer-rules.grown_down placer-rules.set_min_width placer-rules.set_min_height placer-refusals.grid_part placer-refusals.placer_fault placer-refusals.advance_fault placer-refusals.end_row_fault placer-refusals.placer_answer placer-refusals.changed_placer placer-operations.checked_new placer-operations.checked_set_grid placer-operations.checked_save_grid placer-operations.checked_force_set_min_rect placer-operations.checked_set_cursor placer-operations.checked_align_size_within_rect placer-operations.checked_available_rect_before_wrap placer-operations.checked_available_size placer-operations.checked_next_space placer-operations.checked_next_widget_position placer-operations.checked_justify_and_align placer-operations.checked_advance_cursor placer-operations.checked_advance_after_rects placer-operations.checked_end_row placer-operations.checked_set_row_height placer-operations.checked_expand_to_include_rect placer-operations.checked_expand_to_include_x placer-operations.checked_expand_to_include_y placer-operations.checked_next_widget_space_ignore_wrap_justify placer-operations.checked_set_max_width placer-operations.checked_set_max_height placer-operations.checked_set_min_width placer-operations.checked_set_min_height fields.column fields.columns fields.has_text fields.grow fields.digits_from fields.same fields.blank fields.number_of fields.field fields.field_at fields.written_at lines.texts lines.have_texts lines.line lines.line_at parts.ends parts.points parts.length_in parts.is_length parts.length_value parts.measured parts.size_in units.nearest units.from_hundredths units.in_steps parts.is_maximum parts.maximum_value parts.count_in parts.is_count parts.natural parts.count_value records.pair_fits records.pair_in records.direction_of records.align_of records.layout_fits records.layout_in records.rect_in records.heading_fits records.maxima_fit records.maxima_in records.is_columns records.options_in records.grid_fits records.step_record records.widget_record records.single_record records.record_of records.record_at records.field_count records.next_at sheets.records_from sheets.after sheets.wrong_from sheets.misplaced sheets.widget_step sheets.widget sheets.widgets sheets.sheet_fault sheets.checked conversions.total sheet-controls.only_controls sheet-controls.number_in sheet-controls.size_of sheet-controls.sizes_from pass-rules.widget_fault pass-rules.widget_step pass-rules.stepped pass-rules.followed pass-rules.run_from pass-rules.headed pass-rules.grid_of pass-rules.grid_set pass-rules.around pass-rules.plate_of pass-rules.remembered pass-rules.outcome_of pass-rules.begun pass-rules.ran_with pass-rules.pass passes-rules.passes slices.laid slices.after_check slices.written lists.printed lists.settled_from lists.settled lists.widget_lines lists.entry_lines lists.memory_lines lists.accepted_lines lists.refusal_line lists.outcome_lines lists.answered lists.list_of texts.steps_of headings.stands headings.past headings.has_unit headings.unit_in headings.has_grid_lem headings.unit_fits headings.options_fit headings.heading_in headings.heading_fault ieee.span ieee.climb ieee.size ieee.odd ieee.units ieee.round ieee.neg ieee.sum ieee.add ieee.sub ieee.mul ieee.div ieee.lt ieee.eq ieee.le ieee.of_int ieee.to_unsigned ieee.to_signed ieee.of_fields ieee.of_bits ieee.ne cases.times cases.same_all cases.twice_each cases.all_hold
+unfolding rectangles.min_f rectangles.max_f rectangles.translate rectangles.intersect rectangles.union rectangles.extend_with_x rectangles.extend_with_y rectangles.intersects rectangles.centred rectangles.aligned_to rectangles.align_on rectangles.align_within rectangles.round_f rectangles.round_by rectangles.round_rect domain.finite domain.within domain.both_of domain.edges_of domain.negative domain.inside_out refusals.lesser refusals.least refusals.or_else refusals.length_fault refusals.pair_fault refusals.edges_fault refusals.extent_fault refusals.size_fault refusals.rect_fault refusals.outside refusals.answer refusals.or_zeros steps.val directions.is_horizontal layouts.is_right_to_left layouts.is_center layouts.is_max layouts.prefer_right_to_left layouts.placement layouts.horizontal_align layouts.vertical_align layouts.align2 layouts.horizontal_justify layouts.vertical_justify regions.expand_to_include_rect regions.expand_to_include_x regions.expand_to_include_y layout-rules.align_size_within_rect layout-rules.initial_cursor layout-rules.from_cursor layout-rules.not_negative layout-rules.not_negative_rect layout-rules.available_from_cursor_max_rect layout-rules.available_rect_before_wrap layout-rules.available_size layout-rules.overflows layout-rules.new_row layout-rules.new_column layout-rules.new_cursor layout-rules.reaching layout-rules.new_region layout-rules.fills_width layout-rules.fills_height layout-rules.frame_width layout-rules.frame_height layout-rules.frame_align2 layout-rules.moved_down layout-rules.frame_rect layout-rules.next_frame_ignore_wrap layout-rules.wraps layout-rules.next_frame layout-rules.raised layout-rules.justify_and_align layout-rules.next_widget_space_ignore_wrap_justify layout-rules.next_widget_position layout-rules.region_from_max_rect layout-rules.advance_cursor layout-rules.stays_in_row layout-rules.row_started layout-rules.grown_across layout-rules.row_for layout-rules.past_widget layout-rules.advance_after_rects layout-rules.next_row layout-rules.end_row layout-rules.set_row_height layout-refusals.zero_if_open layout-refusals.closed layout-refusals.cursor_fault layout-refusals.region_fault layout-refusals.region_answer layout-refusals.cursor_answer entries.entry entries.cleared entries.raised entries.total_from entries.same_entries entries.entries_fault entries.zeros memories.capped memories.raised_count memories.set_min_col_width memories.set_min_row_height memories.col_width memories.row_height memories.full_width memories.same_memory grids.known_memory grids.new_grid grids.prev_col_width grids.prev_row_height grids.last_width grids.other_width grids.cell_width grids.cell_height grids.available_rect grids.next_width grids.next_cell grids.align_size_within_rect grids.noted grids.advanced grids.advance grids.row_ended grids.end_row grids.save grid-refusals.memory_fault grid-refusals.max_cell_fault grid-refusals.grid_fault grid-refusals.fits_grid grid-refusals.direction_fault grid-refusals.moved_fault grid-refusals.memory_answer grid-refusals.grid_answer grid-refusals.moved_answer grid-refusals.saved_answer grid-refusals.entry_answer grid-operations.checked_set_min_col_width grid-operations.checked_set_min_row_height grid-operations.checked_col_width grid-operations.checked_row_height grid-operations.checked_full_width grid-operations.checked_new grid-operations.checked_prev_col_width grid-operations.checked_prev_row_height grid-operations.checked_available_rect grid-operations.checked_next_cell grid-operations.checked_align_size_within_rect grid-operations.checked_advance grid-operations.checked_end_row grid-operations.checked_save placer-rules.new_placer placer-rules.save_grid placer-rules.force_set_min_rect placer-rules.set_cursor placer-rules.align_size_within_rect placer-rules.available placer-rules.available_rect_before_wrap placer-rules.available_size placer-rules.next_space placer-rules.next_widget_position placer-rules.justify_and_align placer-rules.advance_cursor placer-rules.expand_to_include_rect placer-rules.expand_to_include_x placer-rules.expand_to_include_y placer-rules.moved_past placer-rules.advance_after_rects placer-rules.end_row placer-rules.set_row_height placer-rules.next_widget_space_ignore_wrap_justify placer-rules.limited_across placer-rules.limited_down placer-rules.set_max_width placer-rules.set_max_height placer-rules.grown_across placer-rules.grown_down placer-rules.set_min_width placer-rules.set_min_height placer-refusals.grid_part placer-refusals.placer_fault placer-refusals.advance_fault placer-refusals.end_row_fault placer-refusals.placer_answer placer-refusals.changed_placer placer-operations.checked_new placer-operations.checked_set_grid placer-operations.checked_save_grid placer-operations.checked_force_set_min_rect placer-operations.checked_set_cursor placer-operations.checked_align_size_within_rect placer-operations.checked_available_rect_before_wrap placer-operations.checked_available_size placer-operations.checked_next_space placer-operations.checked_next_widget_position placer-operations.checked_justify_and_align placer-operations.checked_advance_cursor placer-operations.checked_advance_after_rects placer-operations.checked_end_row placer-operations.checked_set_row_height placer-operations.checked_expand_to_include_rect placer-operations.checked_expand_to_include_x placer-operations.checked_expand_to_include_y placer-operations.checked_next_widget_space_ignore_wrap_justify placer-operations.checked_set_max_width placer-operations.checked_set_max_height placer-operations.checked_set_min_width placer-operations.checked_set_min_height fields.column fields.columns fields.has_text fields.grow fields.digits_from fields.same fields.blank fields.number_of fields.field fields.field_at fields.written_at lines.texts lines.have_texts lines.line lines.line_at parts.ends parts.points parts.length_in parts.is_length parts.length_value parts.measured parts.size_in units.nearest units.from_hundredths units.in_steps parts.is_maximum parts.maximum_value parts.count_in parts.is_count parts.natural parts.count_value records.pair_fits records.pair_in records.direction_of records.align_of records.layout_fits records.layout_in records.rect_in records.heading_fits records.maxima_fit records.maxima_in records.is_columns records.options_in records.grid_fits records.step_record records.widget_record records.single_record records.record_of records.record_at records.field_count records.next_at sheets.records_from sheets.after sheets.wrong_from sheets.misplaced sheets.widget_step sheets.widget sheets.widgets sheets.sheet_fault sheets.checked conversions.total sheet-controls.only_controls sheet-controls.number_in sheet-controls.size_of sheet-controls.sizes_from pass-rules.widget_fault pass-rules.widget_step pass-rules.stepped pass-rules.followed pass-rules.run_from pass-rules.headed pass-rules.grid_of pass-rules.grid_set pass-rules.around pass-rules.plate_of pass-rules.remembered pass-rules.outcome_of pass-rules.begun pass-rules.ran_with pass-rules.pass passes-rules.passes slices.laid slices.after_check slices.written lists.printed lists.settled_from lists.settled lists.widget_lines lists.entry_lines lists.memory_lines lists.accepted_lines lists.refusal_line lists.outcome_lines lists.answered lists.list_of texts.steps_of headings.stands headings.past headings.has_unit headings.unit_in headings.has_grid_lem headings.unit_fits headings.options_fit headings.heading_in headings.heading_fault ieee.span ieee.climb ieee.size ieee.odd ieee.units ieee.round ieee.neg ieee.sum ieee.add ieee.sub ieee.mul ieee.div ieee.lt ieee.eq ieee.le ieee.of_int ieee.to_unsigned ieee.to_signed ieee.of_fields ieee.of_bits ieee.ne cases.times cases.same_all cases.twice_each cases.all_hold
 computed = record {
   cases-hold-all = refl;
   strips = record { first = refl; second = refl; grown = record { heading = refl; steps = Grown.control refl refl (Grown.control refl refl Grown.none) } };

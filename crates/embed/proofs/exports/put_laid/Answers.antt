@@ -2,10 +2,10 @@ use Rattle.sheet.specs.Slices.{laid_number, laid_record}
 use mathlib.Core.Path.{refl}
 use Rattle.embed.proofs.exports.put_laid.Goals as goal
 
-pub returns-in-Accepted : goal.returns-in-Accepted
+pub returns-in-Ok : goal.returns-in-Ok
 unfolding laid_number laid_record
-returns-in-Accepted c = rw c.in-Accepted.is (refl, refl)
+returns-in-Ok c = rw c.in-Ok.is (refl, refl)
 
-pub returns-in-Refused : goal.returns-in-Refused
+pub returns-in-Err : goal.returns-in-Err
 unfolding laid_number laid_record
-returns-in-Refused c = rw c.in-Refused.is (refl, refl)
+returns-in-Err c = rw c.in-Err.is (refl, refl)

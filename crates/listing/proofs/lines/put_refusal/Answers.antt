@@ -1,14 +1,14 @@
+use Rattle.std.proofs.Common.{◌≡◌, pos, arith}
 use mir.Facts.{to_z_pos}
 use mir.Val.{to_z}
 use mir.Syntax.{w32}
-use mathlib.Core.Path.{◌≡◌}
-use native.Mathlib.Omega.{arith}
-use lib.IntN.{pos}
+use Rattle.emath.specs.Refusals.{number_of}
 use Rattle.listing.proofs.lines.put_refusal.Goals as goal
 
 pub returns : goal.returns
 returns c =
     let a = c.args in
-    let e0 : to_z w32 a.number ≡ pos a.number = to_z_pos w32 (omega arith) in
+    let n = c.number.ensures in
+    let e0 : to_z w32 c.number.result ≡ pos c.number.result = to_z_pos w32 (omega arith) in
     let e1 : to_z w32 a.«record» ≡ pos a.«record» = to_z_pos w32 (omega arith) in
-    (rw (e0, e1) at c.put_line.ensures, omega arith)
+    (rw (e0, e1, n) at c.put_line.ensures, omega (arith, n))

@@ -5,16 +5,16 @@ use Rattle.listing.proofs.printing.put_passed.Goals as goal
 
 pub put_accepted-requires : goal.put_accepted-requires
 unfolding printable
-put_accepted-requires c = rw c.in-Accepted.is at c.requires
+put_accepted-requires c = rw c.in-Ok.is at c.requires
 
 pub put_refusal-requires : goal.put_refusal-requires
 unfolding printable
-put_refusal-requires c = rw c.in-Refused.is at c.requires
+put_refusal-requires c = rw c.in-Err.is at c.requires
 
-pub returns-in-Accepted : goal.returns-in-Accepted
+pub returns-in-Ok : goal.returns-in-Ok
 unfolding put_passed laid_number
-returns-in-Accepted c = rw c.in-Accepted.is (c.put_accepted.ensures, omega arith)
+returns-in-Ok c = rw c.in-Ok.is (c.put_accepted.ensures, omega arith)
 
-pub returns-in-Refused : goal.returns-in-Refused
+pub returns-in-Err : goal.returns-in-Err
 unfolding put_passed laid_number
-returns-in-Refused c = rw c.in-Refused.is c.put_refusal.ensures
+returns-in-Err c = rw c.in-Err.is c.put_refusal.ensures

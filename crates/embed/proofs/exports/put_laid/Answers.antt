@@ -8,4 +8,4 @@ returns-in-Ok c = rw c.in-Ok.is (refl, refl)
 
 pub returns-in-Err : goal.returns-in-Err
 unfolding laid_number laid_record
-returns-in-Err c = rw c.in-Err.is (refl, refl)
+returns-in-Err c = rw c.in-Err.is (c.number.ensures, refl)

@@ -108,7 +108,7 @@ unfoldable pub checked_record : Checked → ℕ
 checked_record (Accepted k w) = 0
 checked_record (Refused n at) = at
 
--- RULES 8.1: what the check answers, with the number for the refusal
+-- RULES 8.1, 8.7: what the check answers, with the number for the refusal
 abbrev pub checked_outcome : Result Counts SheetRefusal → Checked
 checked_outcome (Ok c) = Accepted c.records c.widgets
 checked_outcome (Err e) = Refused (number_of e.refusal) e.record

@@ -6,8 +6,7 @@ ghost use Rattle.grid.specs.declared.GridSettings.{GridSettings as Settings};
 ghost use Rattle.grid.specs.Grids.{next_width, next_cell, advance, end_row};
 ghost use Rattle.grid.specs.Implementation.Lent.{grid_of, settings_of, state_of, noted_size};
 
-use crate::entries::{entry, raise};
-use crate::memories::raised_count;
+use crate::entries::{counted, entry, raise};
 use crate::{GridLayout, GridSettings, GridState, MAX_COLS, MAX_ROWS, Memory};
 use emath::num::max;
 use emath::{Pos2, Rect, Vec2};
@@ -90,7 +89,7 @@ fn next_width(grid: GridSettings, state: GridState, prev_widths: &[f32]) -> f32
     if grid.sizing_pass {
         return 0.0;
     }
-    entry(prev_widths, grid.prev_cols, state.col, 0.0)
+    entry(counted(prev_widths, grid.prev_cols), state.col, 0.0)
 }
 
 pub fn next_cell(
@@ -104,12 +103,8 @@ pub fn next_cell(
     ensures { (ws hs : List Float) → result ≡ next_cell tick (grid_of grid state prev_widths.now prev_heights.now ws hs) cursor child_size }
 {
     let width = next_width(grid, state, prev_widths);
-    let height = entry(
-        prev_heights,
-        grid.prev_rows,
-        state.row,
-        grid.min_cell_size.y,
-    );
+    let heights = counted(prev_heights, grid.prev_rows);
+    let height = entry(heights, state.row, grid.min_cell_size.y);
     let size = Vec2 {
         x: max(child_size.x, width),
         y: max(child_size.y, height),
@@ -134,8 +129,8 @@ pub fn noted_size(
     let width = max(widget.width(), grid.min_cell_size.x);
     let height = max(widget.height(), grid.min_cell_size.y);
     Vec2 {
-        x: max(entry(widths, state.cols, state.col, 0.0), width),
-        y: max(entry(heights, state.rows, state.row, 0.0), height),
+        x: max(entry(counted(widths, state.cols), state.col, 0.0), width),
+        y: max(entry(counted(heights, state.rows), state.row, 0.0), height),
     }
 }
 
@@ -151,22 +146,13 @@ fn note(
     requires widths_len { (length widths.old ≡ 32) × (length heights.old ≡ 128) }
     ensures { (pw ph : List Float) (c : Place) → grid_of grid result pw ph widths.new heights.new ≡ (advance (grid_of grid state pw ph widths.old heights.old) c widget).grid }
 {
-    let col = state.col;
-    let row = state.row;
-    let cols = state.cols;
-    let rows = state.rows;
-    raise(widths, cols, col, max(widget.width(), grid.min_cell_size.x));
-    raise(
-        heights,
-        rows,
-        row,
-        max(widget.height(), grid.min_cell_size.y),
-    );
+    let width = max(widget.width(), grid.min_cell_size.x);
+    let height = max(widget.height(), grid.min_cell_size.y);
     GridState {
-        cols: raised_count(cols, col + 1),
-        rows: raised_count(rows, row + 1),
-        col: col + 1,
-        row: row,
+        cols: raise(widths, state.cols, state.col, width),
+        rows: raise(heights, state.rows, state.row, height),
+        col: state.col + 1,
+        row: state.row,
     }
 }
 
@@ -199,7 +185,11 @@ pub fn advanced_cursor(
 {
     if state.col < MAX_COLS {
         if state.row < MAX_ROWS {
-            let width = entry(prev_widths, grid.prev_cols, state.col, grid.min_cell_size.x);
+            let width = entry(
+                counted(prev_widths, grid.prev_cols),
+                state.col,
+                grid.min_cell_size.x,
+            );
             let mut c = cursor;
             c.left = cursor.left + (width + grid.spacing.x);
             return c;
@@ -225,7 +215,11 @@ pub fn ended_cursor(grid: GridSettings, state: GridState, heights: &[f32], curso
     ensures { (pw ph ws : List Float) → result ≡ (end_row (grid_of grid state pw ph ws heights.now) cursor).cursor }
 {
     if state.row < MAX_ROWS {
-        let height = entry(heights, state.rows, state.row, grid.min_cell_size.y);
+        let height = entry(
+            counted(heights, state.rows),
+            state.row,
+            grid.min_cell_size.y,
+        );
         let mut c = cursor;
         c.left = grid.initial_available.left;
         c.top = cursor.top + grid.spacing.y + height;

@@ -5,7 +5,7 @@ use Rattle.grid.proofs.lent.ended_cursor.Goals as goal
 
 pub returns-then-state-lt-MAX_ROWS : goal.returns-then-state-lt-MAX_ROWS
 unfolding end_row row_ended row_height
-returns-then-state-lt-MAX_ROWS c pw ph ws = rw (lt-ltb _ _ c.if-state-lt-MAX_ROWS.true, c.entry-height.ensures)
+returns-then-state-lt-MAX_ROWS c pw ph ws = rw (lt-ltb _ _ c.if-state-lt-MAX_ROWS.true, c.entry-height.ensures, c.counted.ensures)
 
 pub returns : goal.returns
 unfolding end_row

@@ -1,12 +1,9 @@
 -- What a pass remembers, and how it moves on: a column is as wide as the largest of what it was, the widget and the minimum, and no
 -- narrower than before; a row's end moves by the height met in this pass, or by the minimum where the row holds no cell yet. Assumes nothing.
-use mathlib.Core.Path.{◌≡◌, refl, ◌∙◌}
-use mathlib.Core.Bool.{Bool, true, false, cond}
-use Prim.Native.Nat.{ℕ, ◌+◌, ◌≤◌, ◌<◌}
-use native.Mathlib.Omega.{arith}
-use lib.Dec.{T, ltb}
-use lib.ListN.{length, take, length-take}
-use lib.Ieee.{Float, binary32, add, le}
+use Rattle.std.proofs.Common.{◌≡◌, refl, ◌∙◌, Bool, true, false, cond, ℕ, ◌+◌, ◌≤◌, ◌<◌, arith, T, ltb, length, take, length-take}
+use Rattle.std.specs.Prelude.{Float}
+use Rattle.std.specs.Float.{binary32}
+use Rattle.std.specs.Float.Ieee.{add, le}
 use Rattle.emath.specs.Rectangles.{zero_f, max_f, width, height}
 use Rattle.emath.proofs.Tests.{is_lt}
 use Rattle.emath.proofs.OrderLaws.{Number}

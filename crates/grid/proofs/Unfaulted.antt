@@ -1,13 +1,9 @@
 -- A grid without fault that advances or ends a row: the only new fault that it can have is one of the two entries that were raised.
 -- Assumes nothing.
-use mathlib.Core.Path.{◌≡◌, refl, sym, ◌∙◌}
-use mathlib.Core.Bool.{Bool, true, false, not, cond}
-use mathlib.Core.List.{List, [], ◌∷◌}
-use Prim.Native.Nat.{ℕ, zero, suc, ◌+◌, ◌≤◌, ◌<◌}
-use native.Mathlib.Omega.{arith}
-use lib.Dec.{T, ltb, ltb→lt, nltb→le}
-use lib.ListN.{length, take, get_or, length-take}
-use lib.Ieee.{Float, nan, lt, le, eq, neg, of_bits}
+use Rattle.std.proofs.Common.{◌≡◌, refl, sym, ◌∙◌, Bool, true, false, not, cond, List, [], ◌∷◌, ℕ, zero, suc, ◌+◌, ◌≤◌, ◌<◌, arith, T, ltb, ltb→lt, nltb→le, length, take, get_or, length-take}
+use Rattle.std.specs.Prelude.{Float}
+use Rattle.std.specs.Float.{nan}
+use Rattle.std.specs.Float.Ieee.{lt, le, eq, neg, of_bits}
 use Rattle.emath.specs.Rectangles.{zero_f, max_f, width, height}
 use Rattle.emath.specs.Domain.{finite, within}
 use Rattle.emath.specs.Refusals.{when, lesser, least, length_fault, extent_fault, pair_fault, size_fault, edges_fault}

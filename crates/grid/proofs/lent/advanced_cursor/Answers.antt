@@ -1,4 +1,4 @@
-use borrow.Author.Tests.{le-ltb, lt-ltb}
+use Rattle.std.proofs.lemmas.Bool.{le-ltb, lt-ltb}
 use Rattle.grid.specs.Memories.{col_width}
 use Rattle.grid.specs.Grids.{prev_col_width, advanced, advance}
 use Rattle.grid.proofs.lent.advanced_cursor.Goals as goal

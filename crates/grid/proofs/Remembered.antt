@@ -4,7 +4,7 @@ use Rattle.std.proofs.Common.{◌≡◌, refl, ap, ◌∙◌, sym, List, ℕ, ze
 use Rattle.std.specs.Prelude.{Float}
 use Rattle.std.specs.Float.{nan}
 use Rattle.emath.specs.Rectangles.{zero_f, max_f}
-use Rattle.emath.proofs.Tests.{not-lt, is_lt}
+use Rattle.std.proofs.lemmas.Bool.{le-ltb, lt-ltb}
 use Rattle.grid.specs.Entries.{entry, cleared, raised, zeros}
 use Rattle.grid.specs.Memories.{raised_count}
 use Rattle.grid.proofs.Turns.{length-cleared}
@@ -12,11 +12,11 @@ use Rattle.grid.proofs.Turns.{length-cleared}
 -- ---- an entry that is there, and one that is not
 pub entry-there : (vs : List Float) (i : ℕ) (other : Float) → i < length vs → entry vs i other ≡ get_or vs i nan
 unfolding entry
-entry-there vs i other h = rw (is_lt i (length vs) h)
+entry-there vs i other h = rw (lt-ltb i (length vs) h)
 
 pub entry-none : (vs : List Float) (i : ℕ) (other : Float) → length vs ≤ i → entry vs i other ≡ other
 unfolding entry
-entry-none vs i other h = rw (not-lt i (length vs) h)
+entry-none vs i other h = rw (le-ltb i (length vs) h)
 
 -- ---- zeros at the n places from a
 apart : {i j : ℕ} → j < i → j ≡ i → ⊥

@@ -1,12 +1,11 @@
 -- One turn of each loop over a list of lengths, and what a fill with zeros leaves. Assumes nothing.
-use Rattle.std.proofs.Common.{◌≡◌, refl, sym, ap, ◌∙◌, List, [], ◌∷◌, ℕ, zero, suc, ◌+◌, ◌-◌, ◌≤◌, ◌<◌, length, drop, get_or, set, replicate, min, ◌⊎◌, inl, inr, drop_of_length-le, length-set, arith}
+use Rattle.std.proofs.Common.{◌≡◌, refl, sym, ap, ◌∙◌, Bool, true, false, ◌&&◌, List, [], ◌∷◌, ℕ, zero, suc, ◌+◌, ◌-◌, ◌≤◌, ◌<◌, length, drop, get_or, set, replicate, min, ◌⊎◌, inl, inr, drop_of_length-le, length-set, arith}
 use Rattle.std.specs.Prelude.{Float}
 use Rattle.std.specs.Float.{nan, binary32}
 use Rattle.std.specs.Float.Ieee.{add, eq}
-use Rattle.std.specs.Cmp.Lexicographic.{pointwise}
 use Rattle.std.proofs.Math.Seq.{paste}
 use Rattle.std.proofs.lemmas.Bool.{cases_lt}
-use Rattle.std.proofs.lemmas.List.{at_drop_more}
+use Rattle.std.proofs.lemmas.List.{at_drop_more, drop_more}
 use Rattle.std.proofs.lemmas.List.Edits.{paste_none, fill_from_more}
 use Rattle.emath.specs.Rectangles.{zero_f}
 use Rattle.emath.specs.Refusals.{lesser, extent_fault}
@@ -31,12 +30,34 @@ unfolding entries_fault
 fault-end vs i f h = rw (drop_of_length-le vs {i = i} h) (sym (lesser-zero f))
 
 -- ---- pair by pair
-pub same-pairs : (vs ws : List Float) → pointwise eq vs ws ≡ same_entries vs ws
+pub same-turn : (vs ws : List Float) (i : ℕ) (b : Bool) (v w : Float) → i < length vs → i < length ws → v ≡ get_or vs i nan → w ≡ get_or ws i nan
+    → ((b && eq v w) && same_entries (drop (i + 1) vs) (drop (i + 1) ws)) ≡ (b && same_entries (drop i vs) (drop i ws))
 unfolding same_entries
-same-pairs [] [] = refl
-same-pairs [] (w ∷ ws) = refl
-same-pairs (v ∷ vs) [] = refl
-same-pairs (v ∷ vs) (w ∷ ws) = rw (same-pairs vs ws)
+same-turn vs ws i b v w h k e f = rw (drop_more vs i nan h, drop_more ws i nan k, e, f) (go b (eq (get_or vs i nan) (get_or ws i nan)) (same_entries (drop (i + 1) vs) (drop (i + 1) ws)))
+  where
+    go : (b t u : Bool) → ((b && t) && u) ≡ (b && (t && u))
+    go true t u = refl
+    go false t u = refl
+
+pub same-end : (vs ws : List Float) (i : ℕ) (b : Bool) → length vs ≤ i → length ws ≤ i → b ≡ (b && same_entries (drop i vs) (drop i ws))
+unfolding same_entries
+same-end vs ws i b h k = rw (drop_of_length-le vs {i = i} h, drop_of_length-le ws {i = i} k) (go b)
+  where
+    go : (b : Bool) → b ≡ (b && true)
+    go true = refl
+    go false = refl
+
+-- lists of different lengths differ
+pub not-same : (vs ws : List Float) → (length vs ≡ length ws → ⊥) → false ≡ same_entries vs ws
+unfolding same_entries
+not-same [] [] h = absurd (h refl)
+not-same [] (w ∷ ws) h = refl
+not-same (v ∷ vs) [] h = refl
+not-same (v ∷ vs) (w ∷ ws) h = rw (← (not-same vs ws (λ (e : length vs ≡ length ws). h (ap suc e)))) (none (eq v w))
+  where
+    none : (b : Bool) → false ≡ b && false
+    none true = refl
+    none false = refl
 
 -- ---- zeros
 cleared-paste : (xs : List Float) (a k : ℕ) → a + k ≤ length xs → paste xs a (replicate k zero_f) k ≡ cleared xs a k

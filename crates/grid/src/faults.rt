@@ -3,7 +3,7 @@ ghost use Rattle.std.specs.Prelude.{◌≡◌};
 ghost use Rattle.emath.specs.Refusals.{fault_number};
 ghost use Rattle.grid.specs.Refusals.{memory_fault, max_cell_fault, grid_fault, fits_grid, direction_fault, moved_fault};
 
-use crate::entries::entries_fault;
+use crate::entries::{counted, entries_fault};
 use crate::{GridLayout, MAX_COLS, MAX_ROWS, Memory, Moved};
 use emath::faults::{edges_fault, first_of, pair_fault, size_fault};
 use emath::num::infinity;
@@ -14,10 +14,12 @@ use region::faults::{cursor_fault, zero_if_open};
 pub fn memory_fault(memory: Memory) -> Option<Refusal>
     ensures { fault_number result ≡ memory_fault memory }
 {
+    let widths = memory.col_widths;
+    let heights = memory.row_heights;
     first_of(
-        entries_fault(memory.widths()),
+        entries_fault(counted(&widths, memory.cols)),
         first_of(
-            entries_fault(memory.heights()),
+            entries_fault(counted(&heights, memory.rows)),
             first_of(
                 (MAX_COLS < memory.cols).then_some(Refusal::GridFull),
                 (MAX_ROWS < memory.rows).then_some(Refusal::GridFull),

@@ -1,6 +1,7 @@
 // egui's State: what a grid remembers of one pass for the next.
+// An array is copied before it is read or raised: a loan of a field copies the whole memory, and a read takes five times as long.
 ghost use Rattle.std.specs.Prelude.{◌≡◌};
-ghost use Rattle.grid.specs.Memories.{empty_memory, widths, heights, capped, raised_count, set_min_col_width, set_min_row_height, col_width, row_height, full_width, same_memory};
+ghost use Rattle.grid.specs.Memories.{empty_memory, capped, raised_count, set_min_col_width, set_min_row_height, col_width, row_height, full_width, same_memory};
 
 use crate::entries::{counted, entry, raise, same_entries, total_of};
 use crate::{MAX_COLS, MAX_ROWS, Memory};
@@ -13,21 +14,6 @@ pub fn empty_memory() -> Memory
         cols: 0,
         row_heights: [0.0; 128],
         rows: 0,
-    }
-}
-
-// The counted entries.
-impl Memory {
-    pub(crate) fn widths(&self) -> &[f32]
-        ensures { result.now ≡ widths self.now }
-    {
-        counted(&self.col_widths, self.cols)
-    }
-
-    pub(crate) fn heights(&self) -> &[f32]
-        ensures { result.now ≡ heights self.now }
-    {
-        counted(&self.row_heights, self.rows)
     }
 }
 
@@ -60,41 +46,52 @@ pub fn raised_count(n: usize, least: usize) -> usize
 pub fn set_min_col_width(memory: Memory, col: usize, width: f32) -> Memory
     ensures { result ≡ set_min_col_width memory col width }
 {
-    let mut m = memory;
     if col < MAX_COLS {
-        m.cols = raise(&mut m.col_widths, memory.cols, col, width);
+        let mut xs = memory.col_widths;
+        let n = raise(&mut xs, memory.cols, col, width);
+        let mut m = memory;
+        m.col_widths = xs;
+        m.cols = n;
+        return m;
     }
-    m
+    memory
 }
 
 pub fn set_min_row_height(memory: Memory, row: usize, height: f32) -> Memory
     ensures { result ≡ set_min_row_height memory row height }
 {
-    let mut m = memory;
     if row < MAX_ROWS {
-        m.rows = raise(&mut m.row_heights, memory.rows, row, height);
+        let mut xs = memory.row_heights;
+        let n = raise(&mut xs, memory.rows, row, height);
+        let mut m = memory;
+        m.row_heights = xs;
+        m.rows = n;
+        return m;
     }
-    m
+    memory
 }
 
 // The remembered width, or `other` where there is none.
 pub fn col_width(memory: Memory, col: usize, other: f32) -> f32
     ensures { result ≡ col_width memory col other }
 {
-    entry(memory.widths(), col, other)
+    let xs = memory.col_widths;
+    entry(counted(&xs, memory.cols), col, other)
 }
 
 pub fn row_height(memory: Memory, row: usize, other: f32) -> f32
     ensures { result ≡ row_height memory row other }
 {
-    entry(memory.heights(), row, other)
+    let xs = memory.row_heights;
+    entry(counted(&xs, memory.rows), row, other)
 }
 
 // All widths, with a spacing between each two.
 pub fn full_width(memory: Memory, x_spacing: f32) -> f32
     ensures { result ≡ full_width memory x_spacing }
 {
-    let widths = memory.widths();
+    let xs = memory.col_widths;
+    let widths = counted(&xs, memory.cols);
     total_of(widths) + (widths.len().saturating_sub(1) as f32) * x_spacing
 }
 
@@ -102,5 +99,10 @@ pub fn full_width(memory: Memory, x_spacing: f32) -> f32
 pub fn same_memory(a: Memory, b: Memory) -> bool
     ensures { result ≡ same_memory a b }
 {
-    same_entries(a.widths(), b.widths()) & same_entries(a.heights(), b.heights())
+    let widths = a.col_widths;
+    let others = b.col_widths;
+    let wide = same_entries(counted(&widths, a.cols), counted(&others, b.cols));
+    let heights = a.row_heights;
+    let those = b.row_heights;
+    wide & same_entries(counted(&heights, a.rows), counted(&those, b.rows))
 }

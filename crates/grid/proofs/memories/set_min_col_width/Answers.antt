@@ -4,8 +4,8 @@ use Rattle.grid.proofs.memories.set_min_col_width.Goals as goal
 
 pub returns-then-col-lt-MAX_COLS : goal.returns-then-col-lt-MAX_COLS
 unfolding set_min_col_width
-returns-then-col-lt-MAX_COLS c = rw (lt-ltb _ _ c.if-col-lt-MAX_COLS.true, c.raise.ensures.array, c.raise.ensures.count)
+returns-then-col-lt-MAX_COLS c = rw (lt-ltb _ _ c.if-col-lt-MAX_COLS.true, c.raise-n.ensures.array, c.raise-n.ensures.count)
 
-pub returns-else-col-lt-MAX_COLS : goal.returns-else-col-lt-MAX_COLS
+pub returns : goal.returns
 unfolding set_min_col_width
-returns-else-col-lt-MAX_COLS c = rw (le-ltb _ _ c.if-col-lt-MAX_COLS.false)
+returns c = rw (le-ltb _ _ c.if-col-lt-MAX_COLS.false)

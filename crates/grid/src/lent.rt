@@ -14,31 +14,25 @@ use emath::{Pos2, Rect, Vec2};
 pub fn settings(grid: GridLayout) -> GridSettings
     ensures { result ≡ settings_of grid }
 {
-    let prev = grid.prev_state;
-    let available = grid.initial_available;
-    let spacing = grid.spacing;
-    let smallest = grid.min_cell_size;
-    let largest = grid.max_cell_size;
     GridSettings {
         is_first_frame: grid.is_first_frame,
-        prev_cols: prev.cols,
-        prev_rows: prev.rows,
-        initial_available: available,
+        prev_cols: grid.prev_state.cols,
+        prev_rows: grid.prev_state.rows,
+        initial_available: grid.initial_available,
         sizing_pass: grid.sizing_pass,
         num_columns: grid.num_columns,
-        spacing: spacing,
-        min_cell_size: smallest,
-        max_cell_size: largest,
+        spacing: grid.spacing,
+        min_cell_size: grid.min_cell_size,
+        max_cell_size: grid.max_cell_size,
     }
 }
 
 pub fn state(grid: GridLayout) -> GridState
     ensures { result ≡ state_of grid }
 {
-    let curr = grid.curr_state;
     GridState {
-        cols: curr.cols,
-        rows: curr.rows,
+        cols: grid.curr_state.cols,
+        rows: grid.curr_state.rows,
         col: grid.col,
         row: grid.row,
     }
@@ -54,29 +48,25 @@ pub fn whole(
 ) -> GridLayout
     ensures { result ≡ grid_of grid state prev.col_widths prev.row_heights widths heights }
 {
-    let mut before = prev;
-    before.cols = grid.prev_cols;
-    before.rows = grid.prev_rows;
-    let curr = Memory {
-        col_widths: widths,
-        cols: state.cols,
-        row_heights: heights,
-        rows: state.rows,
-    };
-    let available = grid.initial_available;
-    let spacing = grid.spacing;
-    let smallest = grid.min_cell_size;
-    let largest = grid.max_cell_size;
     GridLayout {
         is_first_frame: grid.is_first_frame,
-        prev_state: before,
-        curr_state: curr,
-        initial_available: available,
+        prev_state: Memory {
+            cols: grid.prev_cols,
+            rows: grid.prev_rows,
+            ..prev
+        },
+        curr_state: Memory {
+            col_widths: widths,
+            cols: state.cols,
+            row_heights: heights,
+            rows: state.rows,
+        },
+        initial_available: grid.initial_available,
         sizing_pass: grid.sizing_pass,
         num_columns: grid.num_columns,
-        spacing: spacing,
-        min_cell_size: smallest,
-        max_cell_size: largest,
+        spacing: grid.spacing,
+        min_cell_size: grid.min_cell_size,
+        max_cell_size: grid.max_cell_size,
         col: state.col,
         row: state.row,
     }
@@ -202,10 +192,11 @@ pub fn end_row(state: GridState) -> GridState
     ensures { (g : Settings) (pw ph ws hs : List Float) (c : Place) → grid_of g result pw ph ws hs ≡ (end_row (grid_of g state pw ph ws hs) c).grid }
 {
     if state.row < MAX_ROWS {
-        let mut s = state;
-        s.col = 0;
-        s.row = state.row + 1;
-        return s;
+        return GridState {
+            col: 0,
+            row: state.row + 1,
+            ..state
+        };
     }
     state
 }

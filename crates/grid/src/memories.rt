@@ -49,10 +49,11 @@ pub fn set_min_col_width(memory: Memory, col: usize, width: f32) -> Memory
     if col < MAX_COLS {
         let mut xs = memory.col_widths;
         let n = raise(&mut xs, memory.cols, col, width);
-        let mut m = memory;
-        m.col_widths = xs;
-        m.cols = n;
-        return m;
+        return Memory {
+            col_widths: xs,
+            cols: n,
+            ..memory
+        };
     }
     memory
 }
@@ -63,10 +64,11 @@ pub fn set_min_row_height(memory: Memory, row: usize, height: f32) -> Memory
     if row < MAX_ROWS {
         let mut xs = memory.row_heights;
         let n = raise(&mut xs, memory.rows, row, height);
-        let mut m = memory;
-        m.row_heights = xs;
-        m.rows = n;
-        return m;
+        return Memory {
+            row_heights: xs,
+            rows: n,
+            ..memory
+        };
     }
     memory
 }

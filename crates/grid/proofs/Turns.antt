@@ -1,10 +1,9 @@
 -- One turn of each loop over a list of lengths, and what a fill with zeros leaves. Assumes nothing.
-use Rattle.std.proofs.Common.{◌≡◌, refl, sym, ap, ◌∙◌, Bool, true, false, ◌&&◌, List, [], ◌∷◌, ℕ, zero, suc, ◌+◌, ◌-◌, ◌≤◌, ◌<◌, length, drop, get_or, set, replicate, min, ◌⊎◌, inl, inr, drop_of_length-le, length-set, arith}
+use Rattle.std.proofs.Common.{◌≡◌, refl, sym, ap, ◌∙◌, Bool, true, false, ◌&&◌, List, [], ◌∷◌, ℕ, zero, suc, ◌+◌, ◌≤◌, ◌<◌, length, drop, get_or, set, replicate, drop_of_length-le, length-set, arith}
 use Rattle.std.specs.Prelude.{Float}
 use Rattle.std.specs.Float.{nan, binary32}
 use Rattle.std.specs.Float.Ieee.{add, eq}
 use Rattle.std.proofs.Math.Seq.{paste}
-use Rattle.std.proofs.lemmas.Bool.{cases_lt}
 use Rattle.std.proofs.lemmas.List.{at_drop_more, drop_more}
 use Rattle.std.proofs.lemmas.List.Edits.{paste_none, fill_from_more}
 use Rattle.emath.specs.Rectangles.{zero_f}
@@ -60,20 +59,12 @@ not-same (v ∷ vs) (w ∷ ws) h = rw (← (not-same vs ws (λ (e : length vs �
     none false = refl
 
 -- ---- zeros
-cleared-paste : (xs : List Float) (a k : ℕ) → a + k ≤ length xs → paste xs a (replicate k zero_f) k ≡ cleared xs a k
+pub cleared-paste : (xs : List Float) (a k : ℕ) → a + k ≤ length xs → paste xs a (replicate k zero_f) k ≡ cleared xs a k
 unfolding cleared
 cleared-paste xs a zero h = sym (paste_none xs a [])
 cleared-paste xs a (suc k) h =
     let e : suc k ≡ k + 1 = omega arith in
     ap (λ (n : ℕ). paste xs a (replicate n zero_f) n) e ∙ sym (fill_from_more xs a k zero_f (omega arith)) ∙ ap (λ (ys : List Float). set ys (a + k) zero_f) (cleared-paste xs a k (omega arith))
-
--- from the lesser of n and i up to i
-pub fill-cleared : (xs : List Float) (n i m k : ℕ) → i ≤ length xs → m ≡ min n i → k ≡ i - m → paste xs m (replicate k zero_f) k ≡ cleared xs n (i - n)
-fill-cleared xs n i m k h e p = go (cases_lt i n)
-  where
-    go : (i < n) ⊎ (n ≤ i) → paste xs m (replicate k zero_f) k ≡ cleared xs n (i - n)
-    go (inl l) = let q : k ≡ 0 = omega (arith, e) in let r : i - n ≡ 0 = omega arith in rw (q, r) (sym (paste_none xs m []) ∙ (unfold cleared in refl))
-    go (inr l) = let q : m ≡ n = omega (arith, e) in let r : k ≡ i - n = omega (arith, e) in rw (q, r) (cleared-paste xs n (i - n) (omega arith))
 
 pub length-cleared : (xs : List Float) (a n : ℕ) → length (cleared xs a n) ≡ length xs
 unfolding cleared

@@ -1,7 +1,7 @@
 // Lists of lengths: the first `n` entries of an array of either length, as the Rust's Vec holds them.
-ghost use Rattle.std.specs.Prelude.{◌≡◌, ◌+◌, ◌<◌, length, take};
+ghost use Rattle.std.specs.Prelude.{◌≡◌, ◌+◌, ◌-◌, ◌<◌, ◌≤◌, length, take};
 ghost use Rattle.emath.specs.Refusals.{fault_number};
-ghost use Rattle.grid.specs.Entries.{entry, raised, total, same_entries, entries_fault};
+ghost use Rattle.grid.specs.Entries.{entry, cleared, raised, total, same_entries, entries_fault};
 ghost use Rattle.grid.specs.Memories.{raised_count};
 
 use crate::memories::{capped_count, raised_count};
@@ -26,6 +26,16 @@ pub fn entry(entries: &[f32], i: usize, other: f32) -> f32
     }
 }
 
+// 0 at each place from `from` to `to`, mostly none: a fill of none is a call.
+fn clear(xs: &mut [f32], from: usize, to: usize)
+    requires { to ≤ length xs.old }
+    ensures { xs.new ≡ cleared xs.old from (to - from) }
+{
+    if from < to {
+        xs[from..to].fill(0.0);
+    }
+}
+
 // The entry at `i` made at least `w`; entries that are new before it are 0. How many are counted then.
 pub fn raise(xs: &mut [f32], n: usize, i: usize, w: f32) -> usize
     requires { i < length xs.old }
@@ -33,7 +43,7 @@ pub fn raise(xs: &mut [f32], n: usize, i: usize, w: f32) -> usize
     ensures count { result ≡ raised_count n (i + 1) }
 {
     let raised = max(entry(counted(&*xs, n), i, 0.0), w);
-    xs[n.min(i)..i].fill(0.0);
+    clear(xs, n, i);
     xs[i] = raised;
     raised_count(n, i + 1)
 }

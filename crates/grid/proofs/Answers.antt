@@ -1,15 +1,8 @@
 -- What an answer says of a state or of an entry. Assumes nothing.
-use mathlib.Core.Path.{◌≡◌, refl, sym}
-use mathlib.Core.Bool.{Bool, true, false}
-use mathlib.Core.List.{List}
-use Prim.Native.Nat.{ℕ, zero, suc, ◌≤◌}
-use native.Mathlib.Omega.{arith}
-use lib.Dec.{ltb}
-use lib.ListN.{take, length-take}
-use lib.Ieee.{Float}
-use borrow.Author.Tests.{ltb-false}
+use Rattle.std.proofs.Common.{◌≡◌, refl, sym, Bool, true, false, List, ℕ, zero, suc, ◌≤◌, arith, ltb, take, length-take}
+use Rattle.std.proofs.lemmas.Bool.{ltb-false}
 use Rattle.emath.specs.Rectangles.{zero_f}
-use Rattle.std.specs.Prelude.{Option, None, Some}
+use Rattle.std.specs.Prelude.{Option, None, Some, Float}
 use Rattle.std.specs.Bool.{then_some}
 use Rattle.emath.specs.Refusals.{fault_number, answered, answer, numbered, or_zeros}
 use Rattle.emath.specs.declared.Refusal.{Refusal}

@@ -1,11 +1,9 @@
 -- A cell's frame is in whole steps, and its widget is exactly as wide as the control, whatever the memory, sizing and cursor.
 -- For steps of 1 to 1/128 point. Assumes nothing.
-use mathlib.Core.Path.{◌≡◌, sym, ap, ◌∙◌}
-use mathlib.Core.Bool.{false}
-use Prim.Native.Nat.{ℕ, ◌≤◌}
-use native.Mathlib.Omega.{arith}
-use lib.IntN.{◌+ℤ◌, ◌-ℤ◌}
-use lib.Ieee.{Float, binary32, add, sub}
+use Rattle.std.proofs.Common.{◌≡◌, sym, ap, ◌∙◌, false, ℕ, ◌≤◌, arith, ◌+ℤ◌, ◌-ℤ◌}
+use Rattle.std.specs.Prelude.{Float}
+use Rattle.std.specs.Float.{binary32}
+use Rattle.std.specs.Float.Ieee.{add, sub}
 use Rattle.emath.proofs.Whole.{Within, sum, diff, whole}
 use Rattle.region.specs.Steps.{WholeRect}
 use Rattle.region.proofs.WholeRegions.{rounded-whole}

@@ -1,16 +1,10 @@
 -- What a memory holds after an entry was raised: the larger of what it was and the new one; other entries as they were; those skipped 0;
 -- none beyond the new count. Assumes nothing.
-use mathlib.Core.Path.{◌≡◌, refl, ap, ◌∙◌, sym}
-use mathlib.Core.List.{List}
-use Prim.Native.Nat.{ℕ, zero, suc, ◌+◌, ◌≤◌, ◌<◌, ◌-◌}
-use native.Mathlib.Omega.{arith}
-use lib.ListN.{length, take, get_or, set, length-take, length-set}
-use lib.Seq.{get_or-take, get_or-set_same, get_or-set_other}
-use lib.Ieee.{Float, nan}
+use Rattle.std.proofs.Common.{◌≡◌, refl, ap, ◌∙◌, sym, List, ℕ, zero, suc, ◌+◌, ◌≤◌, ◌<◌, ◌-◌, arith, length, take, get_or, set, length-take, length-set, get_or-take, get_or-set_same, get_or-set_other, Bool, true, false, not, cond, T, ltb, ltb→lt, nltb→le}
+use Rattle.std.specs.Prelude.{Float}
+use Rattle.std.specs.Float.{nan}
 use Rattle.emath.specs.Rectangles.{zero_f, max_f}
-use Rattle.emath.proofs.Tests.{not-lt, is_lt}
-use mathlib.Core.Bool.{Bool, true, false, not, cond}
-use lib.Dec.{T, ltb, ltb→lt, nltb→le}
+use Rattle.std.proofs.lemmas.Bool.{le-ltb, lt-ltb}
 use Rattle.grid.specs.Entries.{entry, cleared, raised, zeros}
 use Rattle.grid.specs.Memories.{raised_count}
 use Rattle.grid.proofs.Turns.{length-cleared}
@@ -18,11 +12,11 @@ use Rattle.grid.proofs.Turns.{length-cleared}
 -- ---- an entry that is there, and one that is not
 pub entry-there : (vs : List Float) (i : ℕ) (other : Float) → i < length vs → entry vs i other ≡ get_or vs i nan
 unfolding entry
-entry-there vs i other h = rw (is_lt i (length vs) h)
+entry-there vs i other h = rw (lt-ltb i (length vs) h)
 
 pub entry-none : (vs : List Float) (i : ℕ) (other : Float) → length vs ≤ i → entry vs i other ≡ other
 unfolding entry
-entry-none vs i other h = rw (not-lt i (length vs) h)
+entry-none vs i other h = rw (le-ltb i (length vs) h)
 
 -- ---- zeros at the n places from a
 apart : {i j : ℕ} → j < i → j ≡ i → ⊥

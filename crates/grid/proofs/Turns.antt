@@ -1,72 +1,72 @@
--- One turn of each loop over a list of lengths. Assumes nothing.
-use mathlib.Core.Path.{◌≡◌, refl, sym, ap, ◌∙◌}
-use mathlib.Core.Bool.{Bool, true, ◌&&◌}
-use mathlib.Core.List.{List, [], ◌∷◌}
-use Prim.Native.Nat.{ℕ, zero, suc, ◌+◌, ◌-◌, ◌≤◌, ◌<◌}
-use native.Mathlib.Omega.{arith}
-use native.Mathlib.Numerals.{add-one}
-use lib.ListN.{length, take, drop, get_or, set, length-take, drop_of_length-le, length-set}
-use lib.Seq.{drop-cons, get_or-take}
-use lib.Ieee.{Float, nan, binary32, add, eq}
+-- One turn of each loop over a list of lengths, and what a fill with zeros leaves. Assumes nothing.
+use Rattle.std.proofs.Common.{◌≡◌, refl, sym, ap, ◌∙◌, Bool, true, false, ◌&&◌, List, [], ◌∷◌, ℕ, zero, suc, ◌+◌, ◌≤◌, ◌<◌, length, drop, get_or, set, replicate, drop_of_length-le, length-set, arith}
+use Rattle.std.specs.Prelude.{Float}
+use Rattle.std.specs.Float.{nan, binary32}
+use Rattle.std.specs.Float.Ieee.{add, eq}
+use Rattle.std.proofs.Math.Seq.{paste}
+use Rattle.std.proofs.lemmas.List.{at_drop_more, drop_more}
+use Rattle.std.proofs.lemmas.List.Edits.{paste_none, fill_from_more}
 use Rattle.emath.specs.Rectangles.{zero_f}
 use Rattle.emath.specs.Refusals.{lesser, extent_fault}
+use Rattle.emath.proofs.Refusals.{lesser-zero, lesser-assoc}
 use Rattle.grid.specs.Entries.{cleared, total_from, same_entries, entries_fault}
 
 -- ---- the entries from i on
-pub counted : (xs : List Float) (n i : ℕ) → i < n → n ≤ length xs → i < length (take n xs)
-counted xs n i h l = simp length-take (omega arith)
+pub total-turn : (vs : List Float) (i : ℕ) (s : Float) → i < length vs → total_from (add binary32 s (get_or vs i nan)) (drop (i + 1) vs) ≡ total_from s (drop i vs)
+unfolding total_from
+total-turn vs i s h = sym (at_drop_more (total_from s) vs i nan h)
 
-pub next : (xs : List Float) (n i : ℕ) → i < n → n ≤ length xs → drop i (take n xs) ≡ get_or xs i nan ∷ drop (i + 1) (take n xs)
-next xs n i h l =
-    rw add-one (drop-cons (take n xs) i nan (counted xs n i h l) ∙ ap (λ (v : Float). v ∷ drop (suc i) (take n xs)) (get_or-take n xs i nan h))
+pub total-end : (vs : List Float) (i : ℕ) (s : Float) → length vs ≤ i → s ≡ total_from s (drop i vs)
+unfolding total_from
+total-end vs i s h = rw (drop_of_length-le vs {i = i} h)
 
-pub past : (xs : List Float) (n : ℕ) → drop n (take n xs) ≡ []
-past xs n = drop_of_length-le (take n xs) {i = n} (simp length-take (omega arith))
-
-back : (xs : List Float) (n i : ℕ) → 0 < i → i ≤ n → n ≤ length xs → drop (i - 1) (take n xs) ≡ get_or xs (i - 1) nan ∷ drop i (take n xs)
-back xs n i p h l =
-    let e : i - 1 + 1 ≡ i = omega arith in
-    next xs n (i - 1) (omega arith) l ∙ ap (λ (j : ℕ). get_or xs (i - 1) nan ∷ drop j (take n xs)) e
-
--- ---- the loops
-pub fault-turn : (xs : List Float) (n i f : ℕ) → 0 < i → i ≤ n → n ≤ length xs → f ≡ entries_fault (drop i (take n xs)) → lesser (extent_fault (get_or xs (i - 1) nan)) f ≡ entries_fault (drop (i - 1) (take n xs))
+pub fault-turn : (vs : List Float) (i f : ℕ) → i < length vs → lesser (lesser f (extent_fault (get_or vs i nan))) (entries_fault (drop (i + 1) vs)) ≡ lesser f (entries_fault (drop i vs))
 unfolding entries_fault
-fault-turn xs n i f p h l e = rw (back xs n i p h l, e)
+fault-turn vs i f h = rw (at_drop_more entries_fault vs i nan h) (sym (lesser-assoc f (extent_fault (get_or vs i nan)) (entries_fault (drop (i + 1) vs))))
 
-pub same_turn : (xs ys : List Float) (n i : ℕ) (b : Bool) → 0 < i → i ≤ n → n ≤ length xs → n ≤ length ys → b ≡ same_entries (drop i (take n xs)) (drop i (take n ys))
-    → eq (get_or xs (i - 1) nan) (get_or ys (i - 1) nan) && b ≡ same_entries (drop (i - 1) (take n xs)) (drop (i - 1) (take n ys))
+pub fault-end : (vs : List Float) (i f : ℕ) → length vs ≤ i → f ≡ lesser f (entries_fault (drop i vs))
+unfolding entries_fault
+fault-end vs i f h = rw (drop_of_length-le vs {i = i} h) (sym (lesser-zero f))
+
+-- ---- pair by pair
+pub same-turn : (vs ws : List Float) (i : ℕ) (b : Bool) (v w : Float) → i < length vs → i < length ws → v ≡ get_or vs i nan → w ≡ get_or ws i nan
+    → ((b && eq v w) && same_entries (drop (i + 1) vs) (drop (i + 1) ws)) ≡ (b && same_entries (drop i vs) (drop i ws))
 unfolding same_entries
-same_turn xs ys n i b p h l k e = rw (back xs n i p h l, back ys n i p h k, e)
+same-turn vs ws i b v w h k e f = rw (drop_more vs i nan h, drop_more ws i nan k, e, f) (go b (eq (get_or vs i nan) (get_or ws i nan)) (same_entries (drop (i + 1) vs) (drop (i + 1) ws)))
+  where
+    go : (b t u : Bool) → ((b && t) && u) ≡ (b && (t && u))
+    go true t u = refl
+    go false t u = refl
 
-pub total-turn : (xs : List Float) (n i : ℕ) (s t : Float) → i < n → n ≤ length xs → total_from s (drop i (take n xs)) ≡ t → total_from (add binary32 s (get_or xs i nan)) (drop (i + 1) (take n xs)) ≡ t
-total-turn xs n i s t h l e = sym (ap (total_from s) (next xs n i h l) ∙ (unfold total_from in refl)) ∙ e
+pub same-end : (vs ws : List Float) (i : ℕ) (b : Bool) → length vs ≤ i → length ws ≤ i → b ≡ (b && same_entries (drop i vs) (drop i ws))
+unfolding same_entries
+same-end vs ws i b h k = rw (drop_of_length-le vs {i = i} h, drop_of_length-le ws {i = i} k) (go b)
+  where
+    go : (b : Bool) → b ≡ (b && true)
+    go true = refl
+    go false = refl
+
+-- lists of different lengths differ
+pub not-same : (vs ws : List Float) → (length vs ≡ length ws → ⊥) → false ≡ same_entries vs ws
+unfolding same_entries
+not-same [] [] h = absurd (h refl)
+not-same [] (w ∷ ws) h = refl
+not-same (v ∷ vs) [] h = refl
+not-same (v ∷ vs) (w ∷ ws) h = rw (← (not-same vs ws (λ (e : length vs ≡ length ws). h (ap suc e)))) (none (eq v w))
+  where
+    none : (b : Bool) → false ≡ b && false
+    none true = refl
+    none false = refl
 
 -- ---- zeros
-pub clear-turn : (xs ys : List Float) (a i : ℕ) → a ≤ i → ys ≡ cleared xs a (i - a) → set ys i zero_f ≡ cleared xs a (i + 1 - a)
+pub cleared-paste : (xs : List Float) (a k : ℕ) → a + k ≤ length xs → paste xs a (replicate k zero_f) k ≡ cleared xs a k
 unfolding cleared
-clear-turn xs ys a i h e =
-    let p : i + 1 - a ≡ suc (i - a) = omega arith in
-    let q : a + (i - a) ≡ i = omega arith in
-    rw (p, q, e)
-
-pub clear_none : (xs : List Float) (a i : ℕ) → i ≤ a → xs ≡ cleared xs a (i - a)
-unfolding cleared
-clear_none xs a i h = let p : i - a ≡ 0 = omega arith in rw p
+cleared-paste xs a zero h = sym (paste_none xs a [])
+cleared-paste xs a (suc k) h =
+    let e : suc k ≡ k + 1 = omega arith in
+    ap (λ (n : ℕ). paste xs a (replicate n zero_f) n) e ∙ sym (fill_from_more xs a k zero_f (omega arith)) ∙ ap (λ (ys : List Float). set ys (a + k) zero_f) (cleared-paste xs a k (omega arith))
 
 pub length-cleared : (xs : List Float) (a n : ℕ) → length (cleared xs a n) ≡ length xs
 unfolding cleared
 length-cleared xs a zero = refl
 length-cleared xs a (suc n) = simp length-set (length-cleared xs a n)
-
--- ---- where the loops start and end
-pub fault-start : (xs : List Float) (n : ℕ) → 0 ≡ entries_fault (drop n (take n xs))
-unfolding entries_fault
-fault-start xs n = rw (past xs n)
-
-pub same_start : (xs ys : List Float) (n : ℕ) → true ≡ same_entries (drop n (take n xs)) (drop n (take n ys))
-unfolding same_entries
-same_start xs ys n = rw (past xs n, past ys n)
-
-pub total-end : (xs : List Float) (n i : ℕ) (s t : Float) → i ≡ n → total_from s (drop i (take n xs)) ≡ t → s ≡ t
-unfolding total_from
-total-end xs n i s t p e = rw (p, past xs n) at e

@@ -1,18 +1,14 @@
 -- A grid without fault that advances or ends a row: the only new fault that it can have is one of the two entries that were raised.
 -- Assumes nothing.
-use mathlib.Core.Path.{◌≡◌, refl, sym, ◌∙◌}
-use mathlib.Core.Bool.{Bool, true, false, not, cond}
-use mathlib.Core.List.{List, [], ◌∷◌}
-use Prim.Native.Nat.{ℕ, zero, suc, ◌+◌, ◌≤◌, ◌<◌}
-use native.Mathlib.Omega.{arith}
-use lib.Dec.{T, ltb, ltb→lt, nltb→le}
-use lib.ListN.{length, take, get_or, length-take}
-use lib.Ieee.{Float, nan, lt, le, eq, neg, of_bits}
+use Rattle.std.proofs.Common.{◌≡◌, refl, sym, ◌∙◌, Bool, true, false, not, cond, List, [], ◌∷◌, ℕ, zero, suc, ◌+◌, ◌≤◌, ◌<◌, arith, T, ltb, ltb→lt, nltb→le, length, take, get_or, length-take}
+use Rattle.std.specs.Prelude.{Float}
+use Rattle.std.specs.Float.{nan}
+use Rattle.std.specs.Float.Ieee.{lt, le, eq, neg, of_bits}
 use Rattle.emath.specs.Rectangles.{zero_f, max_f, width, height}
 use Rattle.emath.specs.Domain.{finite, within}
 use Rattle.emath.specs.Refusals.{when, lesser, least, length_fault, extent_fault, pair_fault, size_fault, edges_fault}
 use Rattle.emath.proofs.Refusals.{lesser-none, lesser-zero, zero-lesser}
-use Rattle.emath.proofs.Tests.{is_lt, not-lt}
+use Rattle.std.proofs.lemmas.Bool.{lt-ltb, le-ltb}
 use Rattle.grid.specs.Entries.{entry, raised, entries_fault}
 use Rattle.grid.specs.Memories.{raised_count, set_min_col_width, set_min_row_height, col_width, row_height, widths, heights}
 use Rattle.grid.specs.Grids.{noted, advanced, advance, row_ended, end_row}
@@ -160,12 +156,12 @@ module _ (g : GridLayout) (c w : Rect) (none : grid_fault g ≡ 0) where
       let ws = g.curr_state.col_widths in
       let hs = g.curr_state.row_heights in
       rw (
-        is_lt g.col 32 h,
-        is_lt g.row 128 l,
+        lt-ltb g.col 32 h,
+        lt-ltb g.row 128 l,
         raised-fault ws g.curr_state.cols g.col (max_f (width w) g.min_cell_size.x) (omega (arith, m.cols)) (omega arith) m.widths,
         raised-fault hs g.curr_state.rows g.row (max_f (height w) g.min_cell_size.y) (omega (arith, m.rows)) (omega arith) m.heights,
-        not-lt 32 (raised_count g.curr_state.cols (g.col + 1)) (count-few g.curr_state.cols g.col 32 m.cols h),
-        not-lt 128 (raised_count g.curr_state.rows (g.row + 1)) (count-few g.curr_state.rows g.row 128 m.rows l),
+        le-ltb 32 (raised_count g.curr_state.cols (g.col + 1)) (count-few g.curr_state.cols g.col 32 m.cols h),
+        le-ltb 128 (raised_count g.curr_state.rows (g.row + 1)) (count-few g.curr_state.rows g.row 128 m.rows l),
       ) (unfold lesser in rw (lesser-zero (extent_fault (max_f (entry (take g.curr_state.rows hs) g.row zero_f) (max_f (height w) g.min_cell_size.y)))))
 
   pub advance-fault : length g.curr_state.col_widths ≡ 32 → length g.curr_state.row_heights ≡ 128 → g.col < 32 → g.row < 128 → grid_fault (advance g c w).grid ≡ raised_fault g w
@@ -173,23 +169,23 @@ module _ (g : GridLayout) (c w : Rect) (none : grid_fault g ≡ 0) where
   advance-fault L H h l =
       let p = grid-parts g none in
       rw (
-        is_lt g.col 32 h,
-        is_lt g.row 128 l,
+        lt-ltb g.col 32 h,
+        lt-ltb g.row 128 l,
         p.prev,
         noted-fault L H h l,
         p.available,
         p.spacing,
         p.smallest,
         p.largest,
-        not-lt 32 (g.col + 1) (omega arith),
-        not-lt 128 g.row p.row,
+        le-ltb 32 (g.col + 1) (omega arith),
+        le-ltb 128 g.row p.row,
       ) (unfold lesser in lesser-zero (raised_fault g w))
 
   row-ended-fault : g.row < 128 → grid_fault (row_ended g c).grid ≡ 0
   unfolding row_ended grid_fault least
   row-ended-fault h =
       let p = grid-parts g none in
-      rw (p.prev, p.curr, p.available, p.spacing, p.smallest, p.largest, not-lt 128 (g.row + 1) (omega arith)) (unfold lesser in refl)
+      rw (p.prev, p.curr, p.available, p.spacing, p.smallest, p.largest, le-ltb 128 (g.row + 1) (omega arith)) (unfold lesser in refl)
 
   pub end-row-fault : grid_fault (end_row g c).grid ≡ 0
   unfolding end_row

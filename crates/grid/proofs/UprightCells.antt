@@ -1,9 +1,6 @@
 -- No cell of a grid is inside out, and no widget in it: for every step, every size that is not negative, whatever is remembered, from every
 -- f32 corner, in every f32 frame. Assumes nothing.
-use mathlib.Core.Path.{◌≡◌}
-use mathlib.Core.Bool.{false}
-use Prim.Native.Nat.{ℕ}
-use lib.Dec.{T}
+use Rattle.std.proofs.Common.{◌≡◌, false, ℕ, T}
 use Rattle.emath.specs.Rectangles.{max_f, from_min_size, align_within, left_center}
 use Rattle.emath.specs.Domain.{at_least_zero, inside_out}
 use Rattle.emath.specs.Binary32.{F32, RectF32}

@@ -1,11 +1,7 @@
 -- A control centred in a frame of whole steps: its rounded height is at least its own and at most the frame's. It may be one step more
 -- than its own, where it straddles zero. For steps of 1 to 1/128 point. Assumes nothing.
-use mathlib.Core.Path.{◌≡◌, sym, ap, ◌∙◌}
-use mathlib.Core.Bool.{false}
-use Prim.Native.Nat.{ℕ, zero, suc, ◌+◌, ◌-◌, ◌*◌, ◌/◌, ◌^◌, ◌≤◌, ◌<◌}
-use native.Mathlib.Omega.{arith}
-use lib.IntN.{ℤ, pos, negsuc, neg_ℤ, ◌+ℤ◌, ◌-ℤ◌}
-use lib.Ieee.{of_bits}
+use Rattle.std.proofs.Common.{◌≡◌, sym, ap, ◌∙◌, false, ℕ, zero, suc, ◌+◌, ◌-◌, ◌*◌, ◌/◌, ◌^◌, ◌≤◌, ◌<◌, arith, ℤ, pos, negsuc, neg_ℤ, ◌+ℤ◌, ◌-ℤ◌}
+use Rattle.std.specs.Float.Ieee.{of_bits}
 use Rattle.emath.specs.Rectangles.{align_on, aligned_to, centred, height, round_rect, align_within}
 use Rattle.emath.specs.Steps.{val, round_z}
 use Rattle.emath.proofs.Whole.{more, less, Within, ◌≤ᶻ◌, sum, diff}

@@ -1,85 +1,85 @@
-// A list of lengths in an array with a count: the first `n` entries of `xs`, as the Rust's Vec holds them. For both lengths of array.
-ghost use Rattle.std.specs.Prelude.{◌≡◌, ◌-◌, ◌≤◌, ◌<◌, length, take};
+// Lists of lengths: the first `n` entries of an array of either length, as the Rust's Vec holds them.
+ghost use Rattle.std.specs.Prelude.{◌≡◌, ◌+◌, ◌-◌, ◌<◌, ◌≤◌, length, take};
 ghost use Rattle.emath.specs.Refusals.{fault_number};
 ghost use Rattle.grid.specs.Entries.{entry, cleared, raised, total, same_entries, entries_fault};
+ghost use Rattle.grid.specs.Memories.{raised_count};
 
+use crate::memories::{capped_count, raised_count};
 use emath::Refusal;
 use emath::faults::{extent_fault, first_of};
 use emath::num::max;
 
-// The entry at `i`, or `other` where there is none.
-pub fn entry(xs: &[f32], n: usize, i: usize, other: f32) -> f32
-    ensures { result ≡ entry (take n xs.now) i other }
+// The first `n`, or all where there are fewer.
+pub fn counted(xs: &[f32], n: usize) -> &[f32]
+    ensures { result.now ≡ take n xs.now }
 {
-    if i < n {
-        if i < xs.len() {
-            return xs[i];
-        }
-    }
-    other
+    &xs[..capped_count(n, xs.len())]
 }
 
-// 0 at each place from `from` to `to`.
+// The entry at `i`, or `other` where there is none.
+pub fn entry(entries: &[f32], i: usize, other: f32) -> f32
+    ensures { result ≡ entry entries.now i other }
+{
+    match entries.get(i) {
+        Some(entry) => *entry,
+        None => other,
+    }
+}
+
+// 0 at each place from `from` to `to`, mostly none: a fill of none is a call.
 fn clear(xs: &mut [f32], from: usize, to: usize)
     requires { to ≤ length xs.old }
     ensures { xs.new ≡ cleared xs.old from (to - from) }
 {
-    let mut i = from;
-    while i < to {
-        xs[i] = 0.0;
-        i += 1;
+    if from < to {
+        xs[from..to].fill(0.0);
     }
 }
 
-// The entry at `i` made at least `w`; entries that are new before it are 0.
-pub fn raise(xs: &mut [f32], n: usize, i: usize, w: f32)
+// The entry at `i` made at least `w`; entries that are new before it are 0. How many are counted then.
+pub fn raise(xs: &mut [f32], n: usize, i: usize, w: f32) -> usize
     requires { i < length xs.old }
-    ensures { xs.new ≡ raised xs.old n i w }
+    ensures array { xs.new ≡ raised xs.old n i w }
+    ensures count { result ≡ raised_count n (i + 1) }
 {
-    let e = max(entry(&*xs, n, i, 0.0), w);
+    let raised = max(entry(counted(&*xs, n), i, 0.0), w);
     clear(xs, n, i);
-    xs[i] = e;
+    xs[i] = raised;
+    raised_count(n, i + 1)
 }
 
 // The sum, from the first on.
-pub fn total_of(xs: &[f32], n: usize) -> f32
-    requires { n ≤ length xs.now }
-    ensures { result ≡ total (take n xs.now) }
+pub fn total_of(entries: &[f32]) -> f32
+    ensures { result ≡ total entries.now }
 {
     let mut sum = 0.0;
-    let mut i: usize = 0;
-    while i < n {
-        sum = sum + xs[i];
-        i += 1;
+    for x in entries {
+        sum += *x;
     }
     sum
 }
 
-// Whether the first `n` of both are equal, a zero's sign aside.
-pub fn same_entries(xs: &[f32], ys: &[f32], n: usize) -> bool
-    requires in_xs { n ≤ length xs.now }
-    requires in_ys { n ≤ length ys.now }
-    ensures { result ≡ same_entries (take n xs.now) (take n ys.now) }
+// Whether both have as many, each equal to its counterpart, a zero's sign aside. `==` of the slices takes four times as long.
+pub fn same_entries(xs: &[f32], ys: &[f32]) -> bool
+    ensures { result ≡ same_entries xs.now ys.now }
 {
+    if xs.len() != ys.len() {
+        return false;
+    }
     let mut same = true;
-    let mut i = n;
-    while 0 < i {
-        i -= 1;
-        same = (xs[i] == ys[i]) & same;
+    for (x, y) in xs.iter().zip(ys) {
+        same &= x == y;
     }
     same
 }
 
 // The first fault of an entry: not finite, too far or negative.
-pub fn entries_fault(xs: &[f32], n: usize) -> Option<Refusal>
-    requires { n ≤ length xs.now }
-    ensures { fault_number result ≡ entries_fault (take n xs.now) }
+pub fn entries_fault(entries: &[f32]) -> Option<Refusal>
+    ensures { fault_number result ≡ entries_fault entries.now }
 {
     let mut fault = None;
-    let mut i = n;
-    while 0 < i {
-        i -= 1;
-        fault = first_of(extent_fault(xs[i]), fault);
+    for x in entries {
+        fault = first_of(fault, extent_fault(*x));
     }
     fault
 }

@@ -1,11 +1,9 @@
 // The faults of a memory and a grid (RULES 8.5).
-ghost use Rattle.std.specs.Prelude.{◌≡◌, take};
+ghost use Rattle.std.specs.Prelude.{◌≡◌};
 ghost use Rattle.emath.specs.Refusals.{fault_number};
-ghost use Rattle.grid.specs.Entries.{entries_fault};
 ghost use Rattle.grid.specs.Refusals.{memory_fault, max_cell_fault, grid_fault, fits_grid, direction_fault, moved_fault};
 
-use crate::entries::entries_fault;
-use crate::memories::capped_count;
+use crate::entries::{counted, entries_fault};
 use crate::{GridLayout, MAX_COLS, MAX_ROWS, Memory, Moved};
 use emath::faults::{edges_fault, first_of, pair_fault, size_fault};
 use emath::num::infinity;
@@ -13,22 +11,15 @@ use emath::{Refusal, Vec2};
 use region::Direction;
 use region::faults::{cursor_fault, zero_if_open};
 
-// The first fault of an array's counted entries.
-fn counted_fault(xs: &[f32], n: usize) -> Option<Refusal>
-    ensures { fault_number result ≡ entries_fault (take n xs.now) }
-{
-    entries_fault(xs, capped_count(n, xs.len()))
-}
-
 pub fn memory_fault(memory: Memory) -> Option<Refusal>
     ensures { fault_number result ≡ memory_fault memory }
 {
     let widths = memory.col_widths;
     let heights = memory.row_heights;
     first_of(
-        counted_fault(&widths, memory.cols),
+        entries_fault(counted(&widths, memory.cols)),
         first_of(
-            counted_fault(&heights, memory.rows),
+            entries_fault(counted(&heights, memory.rows)),
             first_of(
                 (MAX_COLS < memory.cols).then_some(Refusal::GridFull),
                 (MAX_ROWS < memory.rows).then_some(Refusal::GridFull),

@@ -6,8 +6,7 @@ ghost use Rattle.grid.specs.declared.GridSettings.{GridSettings as Settings};
 ghost use Rattle.grid.specs.Grids.{next_width, next_cell, advance, end_row};
 ghost use Rattle.grid.specs.Implementation.Lent.{grid_of, settings_of, state_of, noted_size};
 
-use crate::entries::{entry, raise};
-use crate::memories::raised_count;
+use crate::entries::{counted, entry, raise};
 use crate::{GridLayout, GridSettings, GridState, MAX_COLS, MAX_ROWS, Memory};
 use emath::num::max;
 use emath::{Pos2, Rect, Vec2};
@@ -15,31 +14,25 @@ use emath::{Pos2, Rect, Vec2};
 pub fn settings(grid: GridLayout) -> GridSettings
     ensures { result ≡ settings_of grid }
 {
-    let prev = grid.prev_state;
-    let available = grid.initial_available;
-    let spacing = grid.spacing;
-    let smallest = grid.min_cell_size;
-    let largest = grid.max_cell_size;
     GridSettings {
         is_first_frame: grid.is_first_frame,
-        prev_cols: prev.cols,
-        prev_rows: prev.rows,
-        initial_available: available,
+        prev_cols: grid.prev_state.cols,
+        prev_rows: grid.prev_state.rows,
+        initial_available: grid.initial_available,
         sizing_pass: grid.sizing_pass,
         num_columns: grid.num_columns,
-        spacing: spacing,
-        min_cell_size: smallest,
-        max_cell_size: largest,
+        spacing: grid.spacing,
+        min_cell_size: grid.min_cell_size,
+        max_cell_size: grid.max_cell_size,
     }
 }
 
 pub fn state(grid: GridLayout) -> GridState
     ensures { result ≡ state_of grid }
 {
-    let curr = grid.curr_state;
     GridState {
-        cols: curr.cols,
-        rows: curr.rows,
+        cols: grid.curr_state.cols,
+        rows: grid.curr_state.rows,
         col: grid.col,
         row: grid.row,
     }
@@ -55,29 +48,25 @@ pub fn whole(
 ) -> GridLayout
     ensures { result ≡ grid_of grid state prev.col_widths prev.row_heights widths heights }
 {
-    let mut before = prev;
-    before.cols = grid.prev_cols;
-    before.rows = grid.prev_rows;
-    let curr = Memory {
-        col_widths: widths,
-        cols: state.cols,
-        row_heights: heights,
-        rows: state.rows,
-    };
-    let available = grid.initial_available;
-    let spacing = grid.spacing;
-    let smallest = grid.min_cell_size;
-    let largest = grid.max_cell_size;
     GridLayout {
         is_first_frame: grid.is_first_frame,
-        prev_state: before,
-        curr_state: curr,
-        initial_available: available,
+        prev_state: Memory {
+            cols: grid.prev_cols,
+            rows: grid.prev_rows,
+            ..prev
+        },
+        curr_state: Memory {
+            col_widths: widths,
+            cols: state.cols,
+            row_heights: heights,
+            rows: state.rows,
+        },
+        initial_available: grid.initial_available,
         sizing_pass: grid.sizing_pass,
         num_columns: grid.num_columns,
-        spacing: spacing,
-        min_cell_size: smallest,
-        max_cell_size: largest,
+        spacing: grid.spacing,
+        min_cell_size: grid.min_cell_size,
+        max_cell_size: grid.max_cell_size,
         col: state.col,
         row: state.row,
     }
@@ -90,7 +79,7 @@ fn next_width(grid: GridSettings, state: GridState, prev_widths: &[f32]) -> f32
     if grid.sizing_pass {
         return 0.0;
     }
-    entry(prev_widths, grid.prev_cols, state.col, 0.0)
+    entry(counted(prev_widths, grid.prev_cols), state.col, 0.0)
 }
 
 pub fn next_cell(
@@ -104,12 +93,8 @@ pub fn next_cell(
     ensures { (ws hs : List Float) → result ≡ next_cell tick (grid_of grid state prev_widths.now prev_heights.now ws hs) cursor child_size }
 {
     let width = next_width(grid, state, prev_widths);
-    let height = entry(
-        prev_heights,
-        grid.prev_rows,
-        state.row,
-        grid.min_cell_size.y,
-    );
+    let heights = counted(prev_heights, grid.prev_rows);
+    let height = entry(heights, state.row, grid.min_cell_size.y);
     let size = Vec2 {
         x: max(child_size.x, width),
         y: max(child_size.y, height),
@@ -134,8 +119,8 @@ pub fn noted_size(
     let width = max(widget.width(), grid.min_cell_size.x);
     let height = max(widget.height(), grid.min_cell_size.y);
     Vec2 {
-        x: max(entry(widths, state.cols, state.col, 0.0), width),
-        y: max(entry(heights, state.rows, state.row, 0.0), height),
+        x: max(entry(counted(widths, state.cols), state.col, 0.0), width),
+        y: max(entry(counted(heights, state.rows), state.row, 0.0), height),
     }
 }
 
@@ -151,22 +136,13 @@ fn note(
     requires widths_len { (length widths.old ≡ 32) × (length heights.old ≡ 128) }
     ensures { (pw ph : List Float) (c : Place) → grid_of grid result pw ph widths.new heights.new ≡ (advance (grid_of grid state pw ph widths.old heights.old) c widget).grid }
 {
-    let col = state.col;
-    let row = state.row;
-    let cols = state.cols;
-    let rows = state.rows;
-    raise(widths, cols, col, max(widget.width(), grid.min_cell_size.x));
-    raise(
-        heights,
-        rows,
-        row,
-        max(widget.height(), grid.min_cell_size.y),
-    );
+    let width = max(widget.width(), grid.min_cell_size.x);
+    let height = max(widget.height(), grid.min_cell_size.y);
     GridState {
-        cols: raised_count(cols, col + 1),
-        rows: raised_count(rows, row + 1),
-        col: col + 1,
-        row: row,
+        cols: raise(widths, state.cols, state.col, width),
+        rows: raise(heights, state.rows, state.row, height),
+        col: state.col + 1,
+        row: state.row,
     }
 }
 
@@ -199,7 +175,11 @@ pub fn advanced_cursor(
 {
     if state.col < MAX_COLS {
         if state.row < MAX_ROWS {
-            let width = entry(prev_widths, grid.prev_cols, state.col, grid.min_cell_size.x);
+            let width = entry(
+                counted(prev_widths, grid.prev_cols),
+                state.col,
+                grid.min_cell_size.x,
+            );
             let mut c = cursor;
             c.left = cursor.left + (width + grid.spacing.x);
             return c;
@@ -212,10 +192,11 @@ pub fn end_row(state: GridState) -> GridState
     ensures { (g : Settings) (pw ph ws hs : List Float) (c : Place) → grid_of g result pw ph ws hs ≡ (end_row (grid_of g state pw ph ws hs) c).grid }
 {
     if state.row < MAX_ROWS {
-        let mut s = state;
-        s.col = 0;
-        s.row = state.row + 1;
-        return s;
+        return GridState {
+            col: 0,
+            row: state.row + 1,
+            ..state
+        };
     }
     state
 }
@@ -225,7 +206,11 @@ pub fn ended_cursor(grid: GridSettings, state: GridState, heights: &[f32], curso
     ensures { (pw ph ws : List Float) → result ≡ (end_row (grid_of grid state pw ph ws heights.now) cursor).cursor }
 {
     if state.row < MAX_ROWS {
-        let height = entry(heights, state.rows, state.row, grid.min_cell_size.y);
+        let height = entry(
+            counted(heights, state.rows),
+            state.row,
+            grid.min_cell_size.y,
+        );
         let mut c = cursor;
         c.left = grid.initial_available.left;
         c.top = cursor.top + grid.spacing.y + height;

@@ -18,6 +18,7 @@ pub const MAX_COLS: usize = 32;
 pub const MAX_ROWS: usize = 128;
 
 // egui's State. Entries beyond a count are not read.
+// Fixed memory: arrays with counts, where the Rust has two Vecs.
 #[derive(Clone, Copy)]
 pub struct Memory {
     pub col_widths: [f32; 32],

@@ -27,7 +27,10 @@ impl Memory {
         ensures { memory_outcome self result ≡ checked_set_min_col_width self col width }
     {
         let new = memories::set_min_col_width(self, col, width);
-        let rest = first_of(extent_fault(width), (MAX_COLS <= col).then_some(Refusal::GridFull));
+        let rest = first_of(
+            extent_fault(width),
+            (MAX_COLS <= col).then_some(Refusal::GridFull),
+        );
         let before = first_of(memory_fault(self), rest);
         answer(before.or(outside_domain(memory_fault(new))), new)
     }
@@ -105,10 +108,7 @@ impl GridLayout {
         let least = first_of(size_fault(min_cell_size), most);
         let options = first_of(pair_fault(spacing.x, spacing.y), least);
         let given = memory_fault(grids::known_memory(known, memory));
-        let before = first_of(
-            region_fault(main_dir, region),
-            first_of(given, options),
-        );
+        let before = first_of(region_fault(main_dir, region), first_of(given, options));
         let after = outside_domain(grid_fault(new));
         answer(before.or(after), new)
     }
@@ -142,7 +142,12 @@ impl GridLayout {
         placed_rect(first_of(grid_fault(self), rest), rect)
     }
 
-    pub fn next_cell(self, main_dir: Direction, cursor: Rect, child_size: Vec2) -> Result<Rect, Refusal>
+    pub fn next_cell(
+        self,
+        main_dir: Direction,
+        cursor: Rect,
+        child_size: Vec2,
+    ) -> Result<Rect, Refusal>
         ensures answer { numbered result ≡ checked_next_cell tick self main_dir cursor child_size }
         ensures says { Says zero_rect (numbered result) (next_cell_number tick self main_dir cursor child_size) (next_cell tick self cursor child_size) }
     {

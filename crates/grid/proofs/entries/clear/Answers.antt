@@ -1,26 +1,19 @@
-use mathlib.Core.Path.{◌≡◌, ap, ◌∙◌}
-use Prim.Native.Nat.{◌-◌}
-use native.Mathlib.Omega.{arith}
-use lib.ListN.{length}
-use Rattle.grid.proofs.Turns.{clear-turn, clear_none, length-cleared}
+use Rattle.std.proofs.Common.{◌≡◌, ◌-◌, ◌∙◌, sym, ap, refl, ℕ, length, drop, take, replicate, arith, length-take, length-drop}
+use Rattle.std.proofs.lemmas.List.{length-replicate}
+use Rattle.std.proofs.lemmas.Slice.{put_mid-paste}
+use Rattle.emath.specs.Rectangles.{zero_f}
+use Rattle.grid.specs.Entries.{cleared}
+use Rattle.grid.proofs.Turns.{cleared-paste}
 use Rattle.grid.proofs.entries.clear.Goals as goal
 
-pub loop-i-init : goal.loop-i-init
-loop-i-init c = (omega arith, omega arith, clear_none _ _ _ (omega arith))
+pub returns-then-from-to : goal.returns-then-from-to
+returns-then-from-to c =
+    let xs = c.args.xs.now in
+    let a = c.args.from in
+    let n = c.args.to - c.args.from in
+    let k : length (take n (drop a xs)) ≡ n = simp (length-take, length-drop) (omega arith) in
+    put_mid-paste a n xs c.fill.new.self (replicate n zero_f) n (c.fill.ensures.after (λ y h. h) ∙ ap (λ (j : ℕ). replicate j zero_f) k) refl (sym (length-replicate _ _)) ∙ cleared-paste xs a n (omega arith)
 
-pub bounds-xs-i : goal.bounds-xs-i
-bounds-xs-i c = let l = c.loop-i in omega (arith, ap length l.invariant.2 ∙ length-cleared _ _ _)
-
-pub loop-i-preserved : goal.loop-i-preserved
-loop-i-preserved c =
-    let l = c.loop-i in
-    (omega arith, omega arith, clear-turn _ _ _ _ l.invariant.0 l.invariant.2)
-
-pub shape_of-xs : goal.shape_of-xs
-shape_of-xs c = let l = c.loop-i in ap length l.invariant.2 ∙ length-cleared _ _ _
-
-pub returns : goal.returns
-returns c =
-    let l = c.loop-i in
-    let p : l.i - c.args.from ≡ c.args.to - c.args.from = omega arith in
-    rw (← p) l.invariant.2
+pub returns-else-from-to : goal.returns-else-from-to
+unfolding cleared
+returns-else-from-to c = let none : c.args.to - c.args.from ≡ 0 = omega arith in rw none

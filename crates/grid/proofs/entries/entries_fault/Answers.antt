@@ -1,18 +1,13 @@
-use mathlib.Core.Path.{◌≡◌}
-use native.Mathlib.Omega.{arith}
-use Rattle.grid.proofs.Turns.{fault-turn, fault-start}
+use Rattle.std.proofs.Common.{◌∙◌}
+use Rattle.emath.proofs.Refusals.{zero-lesser}
+use Rattle.grid.proofs.Turns.{fault-turn, fault-end}
 use Rattle.grid.proofs.entries.entries_fault.Goals as goal
 
-pub loop-i-init : goal.loop-i-init
-loop-i-init c = (omega arith, fault-start c.args.xs.now c.args.n)
+pub loop-x-init : goal.loop-x-init
+loop-x-init c = zero-lesser _
 
-pub loop-i-preserved : goal.loop-i-preserved
-loop-i-preserved c =
-    let l = c.loop-i in
-    (omega arith, rw (c.first_of-fault.ensures, c.extent_fault.ensures) (fault-turn _ _ _ _ c.loop-i-test.true l.invariant.0 c.requires l.invariant.1))
+pub loop-x-preserved : goal.loop-x-preserved
+loop-x-preserved c = rw (c.first_of-fault.ensures, c.extent_fault.ensures) (fault-turn _ _ _ c.loop-x-test.true ∙ c.loop-x.invariant)
 
 pub returns : goal.returns
-returns c =
-    let l = c.loop-i in
-    let p : l.i ≡ 0 = omega arith in
-    rw p at l.invariant.1
+returns c = fault-end c.args.entries.now _ _ c.loop-x-test.false ∙ c.loop-x.invariant

@@ -1,12 +1,7 @@
-use mathlib.Core.Path.{◌≡◌}
-use Prim.Native.Nat.{◌≤◌}
-use lib.ListN.{take, drop}
-use Rattle.emath.specs.Refusals.{fault_number}
+use Rattle.std.proofs.Common.{◌≡◌, drop}
+use Rattle.emath.specs.Refusals.{fault_number, lesser}
 use Rattle.grid.specs.Entries.{entries_fault}
 use Rattle.grid.proofs.entries.entries_fault.Given as goal
 
-abbrev pub invariant-loop-i : goal.invariant-loop-i
-invariant-loop-i l = (l.i ≤ l.n) × (fault_number l.fault ≡ entries_fault (drop l.i (take l.n l.xs)))
-
-abbrev pub decreases-loop-i : goal.decreases-loop-i
-decreases-loop-i l = l.i
+abbrev pub invariant-loop-x : goal.invariant-loop-x
+invariant-loop-x l = lesser (fault_number l.fault) (entries_fault (drop l.x-index l.entries)) ≡ entries_fault l.entries

@@ -1,6 +1,6 @@
 use Rattle.grid.specs.Entries.{raised}
 use Rattle.grid.proofs.entries.raise.Goals as goal
 
-pub returns : goal.returns
+pub returns-clause-array : goal.returns-clause-array
 unfolding raised
-returns c = rw (c.clear.ensures, c.max-e.ensures, c.entry.ensures)
+returns-clause-array c = rw (c.clear.ensures, c.max-raised.ensures, c.entry.ensures, c.counted.ensures)

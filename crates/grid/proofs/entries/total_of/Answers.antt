@@ -1,18 +1,12 @@
-use mathlib.Core.Path.{◌≡◌, refl}
-use native.Mathlib.Omega.{arith}
+use Rattle.std.proofs.Common.{refl, ◌∙◌}
 use Rattle.grid.proofs.Turns.{total-turn, total-end}
 use Rattle.grid.proofs.entries.total_of.Goals as goal
 
-pub loop-i-init : goal.loop-i-init
-loop-i-init c = (omega arith, refl)
+pub loop-x-init : goal.loop-x-init
+loop-x-init c = refl
 
-pub loop-i-preserved : goal.loop-i-preserved
-loop-i-preserved c =
-    let l = c.loop-i in
-    (omega arith, total-turn _ _ _ _ _ c.loop-i-test.true c.requires l.invariant.1)
+pub loop-x-preserved : goal.loop-x-preserved
+loop-x-preserved c = total-turn _ _ _ c.loop-x-test.true ∙ c.loop-x.invariant
 
 pub returns : goal.returns
-returns c =
-    let l = c.loop-i in
-    let p : l.i ≡ c.args.n = omega arith in
-    total-end _ _ _ _ _ p l.invariant.1
+returns c = total-end c.args.entries.now _ _ c.loop-x-test.false ∙ c.loop-x.invariant

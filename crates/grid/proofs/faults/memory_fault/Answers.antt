@@ -5,4 +5,4 @@ use Rattle.grid.proofs.faults.memory_fault.Goals as goal
 
 pub returns : goal.returns
 unfolding memory_fault least
-returns c = rw (c.first_of-3.ensures, c.first_of-2.ensures, c.first_of.ensures, c.then_some-2.ensures, when-number, c.then_some.ensures, when-number, c.counted_fault-2.ensures, c.counted_fault.ensures)
+returns c = rw (c.first_of-3.ensures, c.first_of-2.ensures, c.first_of.ensures, c.then_some-2.ensures, when-number, c.then_some.ensures, when-number, c.entries_fault-2.ensures, c.counted-2.ensures, c.entries_fault.ensures, c.counted.ensures)

@@ -1,4 +1,4 @@
-use mathlib.Core.Path.{◌∙◌}
+use Rattle.std.proofs.Common.{◌∙◌}
 use Rattle.grid.proofs.grids.next_cell.Goals as goal
 
 pub returns : goal.returns

@@ -1,4 +1,4 @@
-use borrow.Author.Tests.{le-ltb, lt-ltb}
+use Rattle.std.proofs.lemmas.Bool.{le-ltb, lt-ltb}
 use Rattle.grid.specs.Grids.{advance}
 use Rattle.grid.proofs.lent.advance.Goals as goal
 

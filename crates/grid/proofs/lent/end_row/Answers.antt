@@ -1,4 +1,4 @@
-use borrow.Author.Tests.{le-ltb, lt-ltb}
+use Rattle.std.proofs.lemmas.Bool.{le-ltb, lt-ltb}
 use Rattle.grid.specs.Grids.{row_ended, end_row}
 use Rattle.grid.proofs.lent.end_row.Goals as goal
 

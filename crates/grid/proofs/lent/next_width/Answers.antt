@@ -8,4 +8,4 @@ returns-then-grid c = rw c.if-grid.true
 
 pub returns : goal.returns
 unfolding next_width col_width
-returns c = rw c.if-grid.false c.entry.ensures
+returns c = rw (c.if-grid.false, c.entry.ensures, c.counted.ensures)

@@ -3,4 +3,4 @@ use Rattle.grid.proofs.memories.col_width.Goals as goal
 
 pub returns : goal.returns
 unfolding col_width
-returns c = rw c.entry.ensures
+returns c = rw (c.entry.ensures, c.counted.ensures)

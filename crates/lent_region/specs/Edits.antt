@@ -21,9 +21,10 @@ edited l g amount spacing = record {
   ended = checked_end_row l (checked_advance_cursor l g amount).region spacing;
 }
 
--- RULES 8.1, 8.4: what the two answers say
+-- RULES 2.27, 8.1, 8.4: what an answer says with the region as it was left, …
 abbrev pub edit_outcome : Outcome → RegionAnswer
 edit_outcome o = record { number = answer_number (numbered o.answer); region = o.region }
 
+-- RULES 2.27: … and the two of them
 abbrev pub edited_outcome : Edited → EditedAnswer
 edited_outcome e = record { advanced = edit_outcome e.advanced; ended = edit_outcome e.ended }

@@ -102,7 +102,9 @@ pub extern "C" fn emath_align_size_within_range(
     out: &mut [f32; 2],
 ) {
     let a = align_of(align as usize);
-    *out = a.align_size_within_range(size, Rangef { min, max }).numbers();
+    *out = a
+        .align_size_within_range(size, Rangef { min, max })
+        .numbers();
 }
 
 #[unsafe(no_mangle)]
@@ -115,7 +117,9 @@ pub extern "C" fn emath_align2_size_within_rect(
     out: &mut [f32; 4],
 ) {
     let a = align2_of(across as usize, down as usize);
-    *out = a.align_size_within_rect(Vec2 { x, y }, rect_of(frame)).numbers();
+    *out = a
+        .align_size_within_rect(Vec2 { x, y }, rect_of(frame))
+        .numbers();
 }
 
 #[unsafe(no_mangle)]
@@ -126,7 +130,9 @@ pub extern "C" fn emath_left_center_size_within_rect(
     out: &mut [f32; 4],
 ) {
     let a = Align2::LEFT_CENTER;
-    *out = a.align_size_within_rect(Vec2 { x, y }, rect_of(frame)).numbers();
+    *out = a
+        .align_size_within_rect(Vec2 { x, y }, rect_of(frame))
+        .numbers();
 }
 
 #[unsafe(no_mangle)]
@@ -156,5 +162,7 @@ pub extern "C" fn emath_side_size_within_range(
         2 => Align::RIGHT,
         _ => Align::BOTTOM,
     };
-    *out = a.align_size_within_range(size, Rangef { min, max }).numbers();
+    *out = a
+        .align_size_within_range(size, Rangef { min, max })
+        .numbers();
 }

@@ -1,10 +1,12 @@
 // GridLayout's calls that make or change a grid, or save it, each giving its answer's number.
 use grid::GridLayout;
-use probe_values::grids::{grid_of, memory_of, put_grid, put_memory};
-use probe_values::layouts::{count_of_flag, direction_of, region_of};
+use grid::grids::empty_grid;
+use probe_values::answers::answer_state;
+use probe_values::grids::{grid_of, memory_of, moved_of, not_saved};
+use probe_values::layouts::{direction_of, region_of};
 use probe_values::packing::{
-    CURSOR, Counts, KNOWN, Lengths, MAIN_DIR, MAX_CELL_SIZE, MIN_CELL_SIZE, NUM_COLUMNS, RECT, ROW,
-    SAVE, SIZING_PASS, SPACING, WIDGET_RECT, put_rect_at, rect_at, vec2_at,
+    Counts, KNOWN, Lengths, MAIN_DIR, MAX_CELL_SIZE, MIN_CELL_SIZE, NUM_COLUMNS, RECT, ROW,
+    SIZING_PASS, SPACING, WIDGET_RECT, rect_at, vec2_at,
 };
 
 // The options stand where a grid has them, and the start row where it has its row.
@@ -27,8 +29,7 @@ pub extern "C" fn grid_new(
         counts[NUM_COLUMNS],
         counts[ROW],
     );
-    put_grid(out, out_counts, a.grid);
-    a.number
+    answer_state(out, out_counts, empty_grid(), a)
 }
 
 #[unsafe(no_mangle)]
@@ -38,17 +39,14 @@ pub extern "C" fn grid_advance(
     out: &mut Lengths,
     out_counts: &mut Counts,
 ) -> u8 {
-    let g = grid_of(lengths, counts);
-    let a = g.advance(
+    let given = moved_of(lengths, counts);
+    let a = given.grid.advance(
         direction_of(counts[MAIN_DIR]),
-        rect_at(lengths, CURSOR),
+        given.cursor,
         rect_at(lengths, RECT),
         rect_at(lengths, WIDGET_RECT),
     );
-    let moved = a.moved;
-    put_grid(out, out_counts, moved.grid);
-    put_rect_at(out, CURSOR, moved.cursor);
-    a.number
+    answer_state(out, out_counts, given, a)
 }
 
 #[unsafe(no_mangle)]
@@ -58,13 +56,10 @@ pub extern "C" fn grid_end_row(
     out: &mut Lengths,
     out_counts: &mut Counts,
 ) -> u8 {
-    let g = grid_of(lengths, counts);
+    let given = moved_of(lengths, counts);
     let d = direction_of(counts[MAIN_DIR]);
-    let a = g.end_row(d, rect_at(lengths, CURSOR));
-    let moved = a.moved;
-    put_grid(out, out_counts, moved.grid);
-    put_rect_at(out, CURSOR, moved.cursor);
-    a.number
+    let a = given.grid.end_row(d, given.cursor);
+    answer_state(out, out_counts, given, a)
 }
 
 #[unsafe(no_mangle)]
@@ -75,9 +70,5 @@ pub extern "C" fn grid_save(
     out_counts: &mut Counts,
 ) -> u8 {
     let g = grid_of(lengths, counts);
-    let a = g.save();
-    let saved = a.saved;
-    put_memory(out, out_counts, saved.memory);
-    out_counts[SAVE] = count_of_flag(saved.save);
-    a.number
+    answer_state(out, out_counts, not_saved(g), g.save())
 }

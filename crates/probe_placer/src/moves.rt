@@ -1,6 +1,8 @@
 // The calls that make or change a placer, each giving its answer's number.
-use crate::placers::{answer_placer, placer_of};
+use crate::placers::placer_of;
 use placer::Placer;
+use placer::faults::zero_placer;
+use probe_values::answers::answer_state;
 use probe_values::grids::grid_of;
 use probe_values::layouts::layout_of;
 use probe_values::packing::{
@@ -14,8 +16,9 @@ pub extern "C" fn placer_new(
     out: &mut Lengths,
     out_counts: &mut Counts,
 ) -> u8 {
-    let a = Placer::new(rect_at(lengths, MAX_RECT), layout_of(counts));
-    answer_placer(out, out_counts, a)
+    let l = layout_of(counts);
+    let a = Placer::new(rect_at(lengths, MAX_RECT), l);
+    answer_state(out, out_counts, zero_placer(l), a)
 }
 
 #[unsafe(no_mangle)]
@@ -29,7 +32,7 @@ pub extern "C" fn placer_set_grid(
 ) -> u8 {
     let p = placer_of(lengths, counts);
     let a = p.set_grid(grid_of(grid_lengths, grid_counts));
-    answer_placer(out, out_counts, a)
+    answer_state(out, out_counts, p, a)
 }
 
 #[unsafe(no_mangle)]
@@ -46,7 +49,7 @@ pub extern "C" fn placer_change_by_rect(
         1 => p.set_cursor(r),
         _ => p.expand_to_include_rect(r),
     };
-    answer_placer(out, out_counts, a)
+    answer_state(out, out_counts, p, a)
 }
 
 #[unsafe(no_mangle)]
@@ -68,7 +71,7 @@ pub extern "C" fn placer_change_by_length(
         6 => p.set_min_width(length),
         _ => p.set_min_height(length),
     };
-    answer_placer(out, out_counts, a)
+    answer_state(out, out_counts, p, a)
 }
 
 #[unsafe(no_mangle)]
@@ -84,7 +87,7 @@ pub extern "C" fn placer_advance_after_rects(
         rect_at(lengths, WIDGET_RECT),
         vec2_at(lengths, ITEM_SPACING),
     );
-    answer_placer(out, out_counts, a)
+    answer_state(out, out_counts, p, a)
 }
 
 #[unsafe(no_mangle)]
@@ -95,5 +98,6 @@ pub extern "C" fn placer_end_row(
     out_counts: &mut Counts,
 ) -> u8 {
     let p = placer_of(lengths, counts);
-    answer_placer(out, out_counts, p.end_row(vec2_at(lengths, ITEM_SPACING)))
+    let a = p.end_row(vec2_at(lengths, ITEM_SPACING));
+    answer_state(out, out_counts, p, a)
 }

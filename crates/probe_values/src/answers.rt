@@ -8,11 +8,12 @@ use grid::{GridLayout, Memory, Moved, Saved};
 use region::Region;
 
 // 0 for none.
+pub fn fault_number(fault: Option<Refusal>) -> u8 {
+    fault.map_or(0, Refusal::number)
+}
+
 pub fn number_of<T: Copy>(a: Result<T, Refusal>) -> u8 {
-    match a {
-        Ok(_) => 0,
-        Err(refusal) => refusal.number(),
-    }
+    fault_number(a.err())
 }
 
 // Of a rectangle, position, size or length all is zero where it is refused.

@@ -72,3 +72,18 @@ pub fn put_grid(lengths: &mut Lengths, counts: &mut Counts, g: GridLayout) {
     counts[COL] = g.col;
     counts[ROW] = g.row;
 }
+
+pub fn moved_of(lengths: &Lengths, counts: &Counts) -> Moved {
+    Moved {
+        grid: grid_of(lengths, counts),
+        cursor: rect_at(lengths, CURSOR),
+    }
+}
+
+// What a pass that is not saved gives back: the memory that it began with.
+pub fn not_saved(g: GridLayout) -> Saved {
+    Saved {
+        memory: g.prev_state,
+        save: false,
+    }
+}

@@ -1,6 +1,6 @@
 // Memory's calls, each giving its answer's number.
-use probe_values::answers::{answer_state, answer_value};
-use probe_values::grids::memory_of;
+use probe_values::answers::{answer_value, number_of};
+use probe_values::grids::{memory_of, put_memory};
 use probe_values::packing::{Counts, LENGTH, Lengths, PLACE};
 
 #[unsafe(no_mangle)]
@@ -12,7 +12,8 @@ pub extern "C" fn grid_memory_set_min_col_width(
 ) -> u8 {
     let m = memory_of(lengths, counts);
     let a = m.set_min_col_width(counts[PLACE], lengths[LENGTH]);
-    answer_state(out, out_counts, m, a)
+    put_memory(out, out_counts, a.unwrap_or(m));
+    number_of(a)
 }
 
 #[unsafe(no_mangle)]
@@ -24,7 +25,8 @@ pub extern "C" fn grid_memory_set_min_row_height(
 ) -> u8 {
     let m = memory_of(lengths, counts);
     let a = m.set_min_row_height(counts[PLACE], lengths[LENGTH]);
-    answer_state(out, out_counts, m, a)
+    put_memory(out, out_counts, a.unwrap_or(m));
+    number_of(a)
 }
 
 #[unsafe(no_mangle)]

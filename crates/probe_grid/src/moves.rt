@@ -1,11 +1,11 @@
 // GridLayout's calls that make or change a grid, or save it, each giving its answer's number.
-use grid::GridLayout;
 use grid::grids::empty_grid;
-use probe_values::answers::answer_state;
-use probe_values::grids::{grid_of, memory_of, moved_of, not_saved};
+use grid::{GridLayout, Moved};
+use probe_values::answers::number_of;
+use probe_values::grids::{grid_of, memory_of, not_saved, put_grid, put_moved, put_saved};
 use probe_values::layouts::{direction_of, region_of};
 use probe_values::packing::{
-    Counts, KNOWN, Lengths, MAIN_DIR, MAX_CELL_SIZE, MIN_CELL_SIZE, NUM_COLUMNS, RECT, ROW,
+    CURSOR, Counts, KNOWN, Lengths, MAIN_DIR, MAX_CELL_SIZE, MIN_CELL_SIZE, NUM_COLUMNS, RECT, ROW,
     SIZING_PASS, SPACING, WIDGET_RECT, rect_at, vec2_at,
 };
 
@@ -29,7 +29,8 @@ pub extern "C" fn grid_new(
         counts[NUM_COLUMNS],
         counts[ROW],
     );
-    answer_state(out, out_counts, empty_grid(), a)
+    put_grid(out, out_counts, a.unwrap_or(empty_grid()));
+    number_of(a)
 }
 
 #[unsafe(no_mangle)]
@@ -39,14 +40,16 @@ pub extern "C" fn grid_advance(
     out: &mut Lengths,
     out_counts: &mut Counts,
 ) -> u8 {
-    let given = moved_of(lengths, counts);
-    let a = given.grid.advance(
+    let grid = grid_of(lengths, counts);
+    let cursor = rect_at(lengths, CURSOR);
+    let a = grid.advance(
         direction_of(counts[MAIN_DIR]),
-        given.cursor,
+        cursor,
         rect_at(lengths, RECT),
         rect_at(lengths, WIDGET_RECT),
     );
-    answer_state(out, out_counts, given, a)
+    put_moved(out, out_counts, a.unwrap_or(Moved { grid, cursor }));
+    number_of(a)
 }
 
 #[unsafe(no_mangle)]
@@ -56,10 +59,11 @@ pub extern "C" fn grid_end_row(
     out: &mut Lengths,
     out_counts: &mut Counts,
 ) -> u8 {
-    let given = moved_of(lengths, counts);
-    let d = direction_of(counts[MAIN_DIR]);
-    let a = given.grid.end_row(d, given.cursor);
-    answer_state(out, out_counts, given, a)
+    let grid = grid_of(lengths, counts);
+    let cursor = rect_at(lengths, CURSOR);
+    let a = grid.end_row(direction_of(counts[MAIN_DIR]), cursor);
+    put_moved(out, out_counts, a.unwrap_or(Moved { grid, cursor }));
+    number_of(a)
 }
 
 #[unsafe(no_mangle)]
@@ -70,5 +74,7 @@ pub extern "C" fn grid_save(
     out_counts: &mut Counts,
 ) -> u8 {
     let g = grid_of(lengths, counts);
-    answer_state(out, out_counts, not_saved(g), g.save())
+    let a = g.save();
+    put_saved(out, out_counts, a.unwrap_or(not_saved(g)));
+    number_of(a)
 }

@@ -1,6 +1,5 @@
 // A placer, packed.
 use placer::Placer;
-use probe_values::answers::State;
 use probe_values::grids::{grid_of, put_grid};
 use probe_values::layouts::{layout_of, put_layout, put_region, region_of};
 use probe_values::packing::{Counts, HAS_GRID, Lengths};
@@ -14,11 +13,9 @@ pub fn placer_of(lengths: &Lengths, counts: &Counts) -> Placer {
     }
 }
 
-impl State for Placer {
-    fn put(self, lengths: &mut Lengths, counts: &mut Counts) {
-        counts[HAS_GRID] = self.has_grid as usize;
-        put_grid(lengths, counts, self.grid);
-        put_layout(counts, self.layout);
-        put_region(lengths, self.region);
-    }
+pub fn put_placer(lengths: &mut Lengths, counts: &mut Counts, p: Placer) {
+    counts[HAS_GRID] = p.has_grid as usize;
+    put_grid(lengths, counts, p.grid);
+    put_layout(counts, p.layout);
+    put_region(lengths, p.region);
 }

@@ -73,14 +73,17 @@ pub fn put_grid(lengths: &mut Lengths, counts: &mut Counts, g: GridLayout) {
     counts[ROW] = g.row;
 }
 
-pub fn moved_of(lengths: &Lengths, counts: &Counts) -> Moved {
-    Moved {
-        grid: grid_of(lengths, counts),
-        cursor: rect_at(lengths, CURSOR),
-    }
+pub fn put_moved(lengths: &mut Lengths, counts: &mut Counts, moved: Moved) {
+    put_grid(lengths, counts, moved.grid);
+    put_at(lengths, CURSOR, &moved.cursor.numbers());
 }
 
-// What a pass that is not saved gives back: the memory that it began with.
+pub fn put_saved(lengths: &mut Lengths, counts: &mut Counts, saved: Saved) {
+    put_memory(lengths, counts, saved.memory);
+    counts[SAVE] = saved.save as usize;
+}
+
+// What a refused `save` leaves: the memory that the pass was given.
 pub fn not_saved(g: GridLayout) -> Saved {
     Saved {
         memory: g.prev_state,

@@ -9,7 +9,7 @@ use crate::rects::{Numbers, align_of};
 use layout::Layout;
 use region::{Direction, Region};
 
-// Each number has to give a direction, so this is no TryFrom.
+// No From: each number gives a direction, and neither type is of this crate.
 pub fn direction_of(n: usize) -> Direction {
     match n {
         0 => Direction::LeftToRight,

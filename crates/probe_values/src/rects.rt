@@ -42,7 +42,7 @@ pub fn rect_of(v: &[f32; 4]) -> Rect {
     rect_at(v, 0)
 }
 
-// Each number has to give an align, so this is no TryFrom.
+// No From: each number gives an align, and neither type is of this crate.
 pub fn align_of(n: usize) -> Align {
     match n {
         0 => Align::Min,

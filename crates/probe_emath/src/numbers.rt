@@ -103,7 +103,7 @@ pub extern "C" fn emath_faults_or_else(n: u8, m: u8) -> u8 {
     counted(n).or(counted(m)).unwrap_or(0)
 }
 
-// The refusal of this number: none of 0, nor beyond 9.
+// The refusal of this number: none of 0, nor beyond 9. No TryFrom: neither type is of this crate.
 fn refusal_of(n: u8) -> Option<Refusal> {
     match n {
         1 => Some(Refusal::Malformed),

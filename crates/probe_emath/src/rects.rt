@@ -147,7 +147,7 @@ pub extern "C" fn emath_align2_with_y(across: u8, down: u8, y: u8) -> u8 {
     code_of(a.with_y(align_of(y as usize)))
 }
 
-// LEFT, TOP, RIGHT and BOTTOM, as the sizes they align.
+// LEFT, TOP, RIGHT and BOTTOM, by a number since C gives it, as the sizes they align.
 #[unsafe(no_mangle)]
 pub extern "C" fn emath_side_size_within_range(
     side: u8,

@@ -1,5 +1,6 @@
 // A state and the arguments of a call, packed in one array of lengths and one of counts. This file says what stands where, as
-// oracle/packing/src/lib.rs does for the Rust. A call reads and writes the places that it has a use for, and no others.
+// oracle/packing/src/lib.rs does for the Rust. A call reads and writes the places that it has a use for, and no others. The two arrays go side
+// by side through every function, and no struct holds them, since C lends them apart.
 ghost use Rattle.std.specs.Prelude.{◌≡◌, ◌+◌, ◌≤◌, length};
 
 use emath::{Rect, Vec2};
@@ -71,8 +72,8 @@ pub const PREV_COUNTS: usize = ROW + 1;
 
 pub const CURR_COUNTS: usize = PREV_COUNTS + 2;
 
-// Arguments and answers: which of an entry point's calls is meant; a column, a row, or the record at fault; whether the memory is
-// known; whether it is to be saved.
+// Arguments and answers: which of an entry point's calls is meant, a number since C gives it; a column, a row, or the record at fault; whether
+// the memory is known; whether it is to be saved.
 pub const CALL: usize = CURR_COUNTS + 2;
 
 pub const PLACE: usize = CALL + 1;

@@ -1,8 +1,6 @@
 // Crate emath's rectangles and aligns.
 use emath::{Align, Align2, Pos2, Rangef, Rect, Vec2};
-use probe_values::rects::{
-    align_of, align2_of, code_of, put_pos2, put_range, put_rect, put_vec2, rect_of,
-};
+use probe_values::rects::{Numbers, align_of, align2_of, code_of, rect_of};
 
 #[unsafe(no_mangle)]
 pub extern "C" fn emath_rect_width(r: &[f32; 4]) -> f32 {
@@ -16,20 +14,17 @@ pub extern "C" fn emath_rect_height(r: &[f32; 4]) -> f32 {
 
 #[unsafe(no_mangle)]
 pub extern "C" fn emath_rect_size(r: &[f32; 4], out: &mut [f32; 2]) {
-    put_vec2(out, rect_of(r).size());
+    *out = rect_of(r).size().numbers();
 }
 
 #[unsafe(no_mangle)]
 pub extern "C" fn emath_rect_center(r: &[f32; 4], out: &mut [f32; 2]) {
-    put_pos2(out, rect_of(r).center());
+    *out = rect_of(r).center().numbers();
 }
 
 #[unsafe(no_mangle)]
 pub extern "C" fn emath_rect_from_min_size(px: f32, py: f32, sx: f32, sy: f32, out: &mut [f32; 4]) {
-    put_rect(
-        out,
-        Rect::from_min_size(Pos2 { x: px, y: py }, Vec2 { x: sx, y: sy }),
-    );
+    *out = Rect::from_min_size(Pos2 { x: px, y: py }, Vec2 { x: sx, y: sy }).numbers();
 }
 
 #[unsafe(no_mangle)]
@@ -40,40 +35,37 @@ pub extern "C" fn emath_rect_from_center_size(
     sy: f32,
     out: &mut [f32; 4],
 ) {
-    put_rect(
-        out,
-        Rect::from_center_size(Pos2 { x: px, y: py }, Vec2 { x: sx, y: sy }),
-    );
+    *out = Rect::from_center_size(Pos2 { x: px, y: py }, Vec2 { x: sx, y: sy }).numbers();
 }
 
 #[unsafe(no_mangle)]
 pub extern "C" fn emath_rect_translate(r: &[f32; 4], x: f32, y: f32, out: &mut [f32; 4]) {
-    put_rect(out, rect_of(r).translate(Vec2 { x, y }));
+    *out = rect_of(r).translate(Vec2 { x, y }).numbers();
 }
 
 #[unsafe(no_mangle)]
 pub extern "C" fn emath_rect_intersect(r: &[f32; 4], other: &[f32; 4], out: &mut [f32; 4]) {
-    put_rect(out, rect_of(r).intersect(rect_of(other)));
+    *out = rect_of(r).intersect(rect_of(other)).numbers();
 }
 
 #[unsafe(no_mangle)]
 pub extern "C" fn emath_rect_union(r: &[f32; 4], other: &[f32; 4], out: &mut [f32; 4]) {
-    put_rect(out, rect_of(r).union(rect_of(other)));
+    *out = rect_of(r).union(rect_of(other)).numbers();
 }
 
 #[unsafe(no_mangle)]
 pub extern "C" fn emath_rect_extend_with_x(r: &[f32; 4], x: f32, out: &mut [f32; 4]) {
-    put_rect(out, rect_of(r).extend_with_x(x));
+    *out = rect_of(r).extend_with_x(x).numbers();
 }
 
 #[unsafe(no_mangle)]
 pub extern "C" fn emath_rect_extend_with_y(r: &[f32; 4], y: f32, out: &mut [f32; 4]) {
-    put_rect(out, rect_of(r).extend_with_y(y));
+    *out = rect_of(r).extend_with_y(y).numbers();
 }
 
 #[unsafe(no_mangle)]
 pub extern "C" fn emath_rect_shrink(r: &[f32; 4], amount: f32, out: &mut [f32; 4]) {
-    put_rect(out, rect_of(r).shrink(amount));
+    *out = rect_of(r).shrink(amount).numbers();
 }
 
 #[unsafe(no_mangle)]
@@ -83,7 +75,7 @@ pub extern "C" fn emath_rect_intersects(r: &[f32; 4], other: &[f32; 4]) -> bool 
 
 #[unsafe(no_mangle)]
 pub extern "C" fn emath_rect_round_ui(r: &[f32; 4], out: &mut [f32; 4]) {
-    put_rect(out, rect_of(r).round_ui());
+    *out = rect_of(r).round_ui().numbers();
 }
 
 #[unsafe(no_mangle)]
@@ -110,7 +102,9 @@ pub extern "C" fn emath_align_size_within_range(
     out: &mut [f32; 2],
 ) {
     let a = align_of(align as usize);
-    put_range(out, a.align_size_within_range(size, Rangef { min, max }));
+    *out = a
+        .align_size_within_range(size, Rangef { min, max })
+        .numbers();
 }
 
 #[unsafe(no_mangle)]
@@ -123,7 +117,9 @@ pub extern "C" fn emath_align2_size_within_rect(
     out: &mut [f32; 4],
 ) {
     let a = align2_of(across as usize, down as usize);
-    put_rect(out, a.align_size_within_rect(Vec2 { x, y }, rect_of(frame)));
+    *out = a
+        .align_size_within_rect(Vec2 { x, y }, rect_of(frame))
+        .numbers();
 }
 
 #[unsafe(no_mangle)]
@@ -134,7 +130,9 @@ pub extern "C" fn emath_left_center_size_within_rect(
     out: &mut [f32; 4],
 ) {
     let a = Align2::LEFT_CENTER;
-    put_rect(out, a.align_size_within_rect(Vec2 { x, y }, rect_of(frame)));
+    *out = a
+        .align_size_within_rect(Vec2 { x, y }, rect_of(frame))
+        .numbers();
 }
 
 #[unsafe(no_mangle)]
@@ -149,7 +147,7 @@ pub extern "C" fn emath_align2_with_y(across: u8, down: u8, y: u8) -> u8 {
     code_of(a.with_y(align_of(y as usize)))
 }
 
-// LEFT, TOP, RIGHT and BOTTOM, as the sizes they align.
+// LEFT, TOP, RIGHT and BOTTOM, by a number since C gives it, as the sizes they align.
 #[unsafe(no_mangle)]
 pub extern "C" fn emath_side_size_within_range(
     side: u8,
@@ -164,5 +162,7 @@ pub extern "C" fn emath_side_size_within_range(
         2 => Align::RIGHT,
         _ => Align::BOTTOM,
     };
-    put_range(out, a.align_size_within_range(size, Rangef { min, max }));
+    *out = a
+        .align_size_within_range(size, Rangef { min, max })
+        .numbers();
 }

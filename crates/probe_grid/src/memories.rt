@@ -1,5 +1,6 @@
 // Memory's calls, each giving its answer's number.
-use probe_values::grids::{answer_length, memory_of, put_memory};
+use probe_values::answers::{answer_value, number_of};
+use probe_values::grids::{memory_of, put_memory};
 use probe_values::packing::{Counts, LENGTH, Lengths, PLACE};
 
 #[unsafe(no_mangle)]
@@ -11,8 +12,8 @@ pub extern "C" fn grid_memory_set_min_col_width(
 ) -> u8 {
     let m = memory_of(lengths, counts);
     let a = m.set_min_col_width(counts[PLACE], lengths[LENGTH]);
-    put_memory(out, out_counts, a.memory);
-    a.number
+    put_memory(out, out_counts, a.unwrap_or(m));
+    number_of(a)
 }
 
 #[unsafe(no_mangle)]
@@ -24,8 +25,8 @@ pub extern "C" fn grid_memory_set_min_row_height(
 ) -> u8 {
     let m = memory_of(lengths, counts);
     let a = m.set_min_row_height(counts[PLACE], lengths[LENGTH]);
-    put_memory(out, out_counts, a.memory);
-    a.number
+    put_memory(out, out_counts, a.unwrap_or(m));
+    number_of(a)
 }
 
 #[unsafe(no_mangle)]
@@ -35,7 +36,7 @@ pub extern "C" fn grid_memory_col_width(
     out: &mut [f32; 2],
 ) -> u8 {
     let m = memory_of(lengths, counts);
-    answer_length(out, m.col_width(counts[PLACE]))
+    answer_value(out, m.col_width(counts[PLACE]))
 }
 
 #[unsafe(no_mangle)]
@@ -45,7 +46,7 @@ pub extern "C" fn grid_memory_row_height(
     out: &mut [f32; 2],
 ) -> u8 {
     let m = memory_of(lengths, counts);
-    answer_length(out, m.row_height(counts[PLACE]))
+    answer_value(out, m.row_height(counts[PLACE]))
 }
 
 #[unsafe(no_mangle)]
@@ -55,5 +56,5 @@ pub extern "C" fn grid_memory_full_width(
     out: &mut [f32; 2],
 ) -> u8 {
     let m = memory_of(lengths, counts);
-    answer_length(out, m.full_width(lengths[LENGTH]))
+    answer_value(out, m.full_width(lengths[LENGTH]).map(Some))
 }

@@ -1,10 +1,12 @@
 // GridLayout's calls that make or change a grid, or save it, each giving its answer's number.
-use grid::GridLayout;
-use probe_values::grids::{grid_of, memory_of, put_grid, put_memory};
-use probe_values::layouts::{count_of_flag, direction_of, region_of};
+use grid::grids::empty_grid;
+use grid::{GridLayout, Moved};
+use probe_values::answers::number_of;
+use probe_values::grids::{grid_of, memory_of, not_saved, put_grid, put_moved, put_saved};
+use probe_values::layouts::{direction_of, region_of};
 use probe_values::packing::{
     CURSOR, Counts, KNOWN, Lengths, MAIN_DIR, MAX_CELL_SIZE, MIN_CELL_SIZE, NUM_COLUMNS, RECT, ROW,
-    SAVE, SIZING_PASS, SPACING, WIDGET_RECT, put_rect_at, rect_at, vec2_at,
+    SIZING_PASS, SPACING, WIDGET_RECT, rect_at, vec2_at,
 };
 
 // The options stand where a grid has them, and the start row where it has its row.
@@ -27,8 +29,8 @@ pub extern "C" fn grid_new(
         counts[NUM_COLUMNS],
         counts[ROW],
     );
-    put_grid(out, out_counts, a.grid);
-    a.number
+    put_grid(out, out_counts, a.unwrap_or(empty_grid()));
+    number_of(a)
 }
 
 #[unsafe(no_mangle)]
@@ -38,17 +40,16 @@ pub extern "C" fn grid_advance(
     out: &mut Lengths,
     out_counts: &mut Counts,
 ) -> u8 {
-    let g = grid_of(lengths, counts);
-    let a = g.advance(
+    let grid = grid_of(lengths, counts);
+    let cursor = rect_at(lengths, CURSOR);
+    let a = grid.advance(
         direction_of(counts[MAIN_DIR]),
-        rect_at(lengths, CURSOR),
+        cursor,
         rect_at(lengths, RECT),
         rect_at(lengths, WIDGET_RECT),
     );
-    let moved = a.moved;
-    put_grid(out, out_counts, moved.grid);
-    put_rect_at(out, CURSOR, moved.cursor);
-    a.number
+    put_moved(out, out_counts, a.unwrap_or(Moved { grid, cursor }));
+    number_of(a)
 }
 
 #[unsafe(no_mangle)]
@@ -58,13 +59,11 @@ pub extern "C" fn grid_end_row(
     out: &mut Lengths,
     out_counts: &mut Counts,
 ) -> u8 {
-    let g = grid_of(lengths, counts);
-    let d = direction_of(counts[MAIN_DIR]);
-    let a = g.end_row(d, rect_at(lengths, CURSOR));
-    let moved = a.moved;
-    put_grid(out, out_counts, moved.grid);
-    put_rect_at(out, CURSOR, moved.cursor);
-    a.number
+    let grid = grid_of(lengths, counts);
+    let cursor = rect_at(lengths, CURSOR);
+    let a = grid.end_row(direction_of(counts[MAIN_DIR]), cursor);
+    put_moved(out, out_counts, a.unwrap_or(Moved { grid, cursor }));
+    number_of(a)
 }
 
 #[unsafe(no_mangle)]
@@ -76,8 +75,6 @@ pub extern "C" fn grid_save(
 ) -> u8 {
     let g = grid_of(lengths, counts);
     let a = g.save();
-    let saved = a.saved;
-    put_memory(out, out_counts, saved.memory);
-    out_counts[SAVE] = count_of_flag(saved.save);
-    a.number
+    put_saved(out, out_counts, a.unwrap_or(not_saved(g)));
+    number_of(a)
 }

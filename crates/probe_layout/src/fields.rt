@@ -1,8 +1,8 @@
 // Crate layout's constructors, builders and inspectors.
 use layout::Layout;
-use probe_values::layouts::{direction_of, layout_of, number_of_direction, put_layout};
+use probe_values::layouts::{direction_of, layout_of, put_layout};
 use probe_values::packing::Counts;
-use probe_values::rects::{align_of, code_of, number_of_align};
+use probe_values::rects::{align_of, code_of};
 
 #[unsafe(no_mangle)]
 pub extern "C" fn layout_default(out: &mut Counts) {
@@ -91,7 +91,7 @@ pub extern "C" fn layout_with_cross_justify(counts: &Counts, cross_justify: u8, 
 
 #[unsafe(no_mangle)]
 pub extern "C" fn layout_main_dir(counts: &Counts) -> u8 {
-    number_of_direction(layout_of(counts).main_dir())
+    layout_of(counts).main_dir() as u8
 }
 
 #[unsafe(no_mangle)]
@@ -131,22 +131,22 @@ pub extern "C" fn layout_vertical_justify(counts: &Counts) -> bool {
 
 #[unsafe(no_mangle)]
 pub extern "C" fn layout_cross_align(counts: &Counts) -> u8 {
-    number_of_align(layout_of(counts).cross_align())
+    layout_of(counts).cross_align() as u8
 }
 
 #[unsafe(no_mangle)]
 pub extern "C" fn layout_horizontal_placement(counts: &Counts) -> u8 {
-    number_of_align(layout_of(counts).horizontal_placement())
+    layout_of(counts).horizontal_placement() as u8
 }
 
 #[unsafe(no_mangle)]
 pub extern "C" fn layout_horizontal_align(counts: &Counts) -> u8 {
-    number_of_align(layout_of(counts).horizontal_align())
+    layout_of(counts).horizontal_align() as u8
 }
 
 #[unsafe(no_mangle)]
 pub extern "C" fn layout_vertical_align(counts: &Counts) -> u8 {
-    number_of_align(layout_of(counts).vertical_align())
+    layout_of(counts).vertical_align() as u8
 }
 
 #[unsafe(no_mangle)]

@@ -1,12 +1,12 @@
 // Crate layout's operations, each giving its answer's number.
-use probe_values::layouts::{
-    answer_pos, answer_rect, answer_region, answer_size, direction_of, layout_of, region_of,
-};
+use probe_values::answers::{answer_value, number_of};
+use probe_values::layouts::{direction_of, layout_of, put_region, region_of};
 use probe_values::packing::{
     CURSOR, Counts, ITEM_SPACING, LENGTH, Lengths, MAIN_DIR, MAX_RECT, RECT, SIZE, WIDGET_RECT,
     rect_at, vec2_at,
 };
-use probe_values::rects::put_rect;
+use probe_values::rects::Numbers;
+use region::faults::zero_region;
 
 #[unsafe(no_mangle)]
 pub extern "C" fn layout_region_expand_to_include_rect(
@@ -16,7 +16,9 @@ pub extern "C" fn layout_region_expand_to_include_rect(
 ) -> u8 {
     let g = region_of(lengths);
     let d = direction_of(counts[MAIN_DIR]);
-    answer_region(out, g.expand_to_include_rect(d, rect_at(lengths, RECT)))
+    let a = g.expand_to_include_rect(d, rect_at(lengths, RECT));
+    put_region(out, a.unwrap_or(g));
+    number_of(a)
 }
 
 #[unsafe(no_mangle)]
@@ -27,7 +29,9 @@ pub extern "C" fn layout_region_expand_to_include_x(
 ) -> u8 {
     let g = region_of(lengths);
     let d = direction_of(counts[MAIN_DIR]);
-    answer_region(out, g.expand_to_include_x(d, lengths[LENGTH]))
+    let a = g.expand_to_include_x(d, lengths[LENGTH]);
+    put_region(out, a.unwrap_or(g));
+    number_of(a)
 }
 
 #[unsafe(no_mangle)]
@@ -38,7 +42,9 @@ pub extern "C" fn layout_region_expand_to_include_y(
 ) -> u8 {
     let g = region_of(lengths);
     let d = direction_of(counts[MAIN_DIR]);
-    answer_region(out, g.expand_to_include_y(d, lengths[LENGTH]))
+    let a = g.expand_to_include_y(d, lengths[LENGTH]);
+    put_region(out, a.unwrap_or(g));
+    number_of(a)
 }
 
 #[unsafe(no_mangle)]
@@ -48,7 +54,7 @@ pub extern "C" fn layout_align_size_within_rect(
     out: &mut [f32; 4],
 ) -> u8 {
     let l = layout_of(counts);
-    answer_rect(
+    answer_value(
         out,
         l.align_size_within_rect(vec2_at(lengths, SIZE), rect_at(lengths, RECT)),
     )
@@ -61,7 +67,7 @@ pub extern "C" fn layout_initial_cursor(
     out: &mut [f32; 4],
 ) -> u8 {
     let l = layout_of(counts);
-    answer_rect(out, l.initial_cursor(rect_at(lengths, MAX_RECT)))
+    answer_value(out, l.initial_cursor(rect_at(lengths, MAX_RECT)))
 }
 
 #[unsafe(no_mangle)]
@@ -71,7 +77,9 @@ pub extern "C" fn layout_region_from_max_rect(
     out: &mut Lengths,
 ) -> u8 {
     let l = layout_of(counts);
-    answer_region(out, l.region_from_max_rect(rect_at(lengths, MAX_RECT)))
+    let a = l.region_from_max_rect(rect_at(lengths, MAX_RECT));
+    put_region(out, a.unwrap_or(zero_region()));
+    number_of(a)
 }
 
 #[unsafe(no_mangle)]
@@ -81,7 +89,7 @@ pub extern "C" fn layout_available_rect_before_wrap(
     out: &mut [f32; 4],
 ) -> u8 {
     let l = layout_of(counts);
-    answer_rect(out, l.available_rect_before_wrap(region_of(lengths)))
+    answer_value(out, l.available_rect_before_wrap(region_of(lengths)))
 }
 
 #[unsafe(no_mangle)]
@@ -91,7 +99,7 @@ pub extern "C" fn layout_available_size(
     out: &mut [f32; 2],
 ) -> u8 {
     let l = layout_of(counts);
-    answer_size(out, l.available_size(region_of(lengths)))
+    answer_value(out, l.available_size(region_of(lengths)))
 }
 
 #[unsafe(no_mangle)]
@@ -101,7 +109,7 @@ pub extern "C" fn layout_available_from_cursor_max_rect(
     out: &mut [f32; 4],
 ) -> u8 {
     let l = layout_of(counts);
-    answer_rect(
+    answer_value(
         out,
         l.available_from_cursor_max_rect(rect_at(lengths, CURSOR), rect_at(lengths, MAX_RECT)),
     )
@@ -110,7 +118,7 @@ pub extern "C" fn layout_available_from_cursor_max_rect(
 #[unsafe(no_mangle)]
 pub extern "C" fn layout_next_frame(lengths: &Lengths, counts: &Counts, out: &mut [f32; 4]) -> u8 {
     let l = layout_of(counts);
-    answer_rect(
+    answer_value(
         out,
         l.next_frame(
             region_of(lengths),
@@ -127,7 +135,7 @@ pub extern "C" fn layout_next_frame_ignore_wrap(
     out: &mut [f32; 4],
 ) -> u8 {
     let l = layout_of(counts);
-    answer_rect(
+    answer_value(
         out,
         l.next_frame_ignore_wrap(region_of(lengths), vec2_at(lengths, SIZE)),
     )
@@ -140,7 +148,7 @@ pub extern "C" fn layout_justify_and_align(
     out: &mut [f32; 4],
 ) -> u8 {
     let l = layout_of(counts);
-    answer_rect(
+    answer_value(
         out,
         l.justify_and_align(rect_at(lengths, RECT), vec2_at(lengths, SIZE)),
     )
@@ -153,7 +161,7 @@ pub extern "C" fn layout_next_widget_space_ignore_wrap_justify(
     out: &mut [f32; 4],
 ) -> u8 {
     let l = layout_of(counts);
-    answer_rect(
+    answer_value(
         out,
         l.next_widget_space_ignore_wrap_justify(region_of(lengths), vec2_at(lengths, SIZE)),
     )
@@ -166,7 +174,7 @@ pub extern "C" fn layout_next_widget_position(
     out: &mut [f32; 2],
 ) -> u8 {
     let l = layout_of(counts);
-    answer_pos(out, l.next_widget_position(region_of(lengths)))
+    answer_value(out, l.next_widget_position(region_of(lengths)))
 }
 
 #[unsafe(no_mangle)]
@@ -176,7 +184,10 @@ pub extern "C" fn layout_advance_cursor(
     out: &mut Lengths,
 ) -> u8 {
     let l = layout_of(counts);
-    answer_region(out, l.advance_cursor(region_of(lengths), lengths[LENGTH]))
+    let g = region_of(lengths);
+    let a = l.advance_cursor(g, lengths[LENGTH]);
+    put_region(out, a.unwrap_or(g));
+    number_of(a)
 }
 
 #[unsafe(no_mangle)]
@@ -186,23 +197,24 @@ pub extern "C" fn layout_advance_after_rects(
     out: &mut [f32; 4],
 ) -> u8 {
     let l = layout_of(counts);
+    let cursor = rect_at(lengths, CURSOR);
     let a = l.advance_after_rects(
-        rect_at(lengths, CURSOR),
+        cursor,
         rect_at(lengths, RECT),
         rect_at(lengths, WIDGET_RECT),
         vec2_at(lengths, ITEM_SPACING),
     );
-    put_rect(out, a.cursor);
-    a.number
+    *out = a.unwrap_or(cursor).numbers();
+    number_of(a)
 }
 
 #[unsafe(no_mangle)]
 pub extern "C" fn layout_end_row(lengths: &Lengths, counts: &Counts, out: &mut Lengths) -> u8 {
     let l = layout_of(counts);
-    answer_region(
-        out,
-        l.end_row(region_of(lengths), vec2_at(lengths, ITEM_SPACING)),
-    )
+    let g = region_of(lengths);
+    let a = l.end_row(g, vec2_at(lengths, ITEM_SPACING));
+    put_region(out, a.unwrap_or(g));
+    number_of(a)
 }
 
 #[unsafe(no_mangle)]
@@ -212,5 +224,8 @@ pub extern "C" fn layout_set_row_height(
     out: &mut Lengths,
 ) -> u8 {
     let l = layout_of(counts);
-    answer_region(out, l.set_row_height(region_of(lengths), lengths[LENGTH]))
+    let g = region_of(lengths);
+    let a = l.set_row_height(g, lengths[LENGTH]);
+    put_region(out, a.unwrap_or(g));
+    number_of(a)
 }

@@ -2,7 +2,8 @@
 #![tactic(auto)]
 
 use lent_region::edit;
-use probe_values::layouts::{answer_region, layout_of, region_of};
+use probe_values::answers::number_of;
+use probe_values::layouts::{layout_of, put_region, region_of};
 use probe_values::packing::{Counts, ITEM_SPACING, LENGTH, Lengths, vec2_at};
 
 // The two lent calls on one region: their numbers, and the region as each left it.
@@ -20,8 +21,7 @@ pub extern "C" fn lent_edit(
         lengths[LENGTH],
         vec2_at(lengths, ITEM_SPACING),
     );
-    let first = e.advanced;
-    let second = e.ended;
-    numbers[0] = answer_region(advanced, first);
-    numbers[1] = answer_region(ended, second);
+    put_region(advanced, e.advanced.region);
+    put_region(ended, e.ended.region);
+    *numbers = [number_of(e.advanced.answer), number_of(e.ended.answer)];
 }

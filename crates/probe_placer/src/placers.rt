@@ -1,7 +1,7 @@
 // A placer, packed.
-use placer::{Placer, PlacerAnswer};
+use placer::Placer;
 use probe_values::grids::{grid_of, put_grid};
-use probe_values::layouts::{count_of_flag, layout_of, put_layout, put_region, region_of};
+use probe_values::layouts::{layout_of, put_layout, put_region, region_of};
 use probe_values::packing::{Counts, HAS_GRID, Lengths};
 
 pub fn placer_of(lengths: &Lengths, counts: &Counts) -> Placer {
@@ -13,14 +13,9 @@ pub fn placer_of(lengths: &Lengths, counts: &Counts) -> Placer {
     }
 }
 
-fn put_placer(lengths: &mut Lengths, counts: &mut Counts, p: Placer) {
-    counts[HAS_GRID] = count_of_flag(p.has_grid);
+pub fn put_placer(lengths: &mut Lengths, counts: &mut Counts, p: Placer) {
+    counts[HAS_GRID] = p.has_grid as usize;
     put_grid(lengths, counts, p.grid);
     put_layout(counts, p.layout);
     put_region(lengths, p.region);
-}
-
-pub fn answer_placer(lengths: &mut Lengths, counts: &mut Counts, a: PlacerAnswer) -> u8 {
-    put_placer(lengths, counts, a.placer);
-    a.number
 }

@@ -1,11 +1,9 @@
 // The calls that read a placer, and save_grid.
 use crate::placers::placer_of;
-use probe_values::grids::put_memory;
-use probe_values::layouts::{answer_pos, answer_rect, answer_size, count_of_flag};
-use probe_values::packing::{
-    CALL, Counts, ITEM_SPACING, Lengths, RECT, SAVE, SIZE, rect_at, vec2_at,
-};
-use probe_values::rects::put_rect;
+use probe_values::answers::{answer_value, number_of};
+use probe_values::grids::{not_saved, put_saved};
+use probe_values::packing::{CALL, Counts, ITEM_SPACING, Lengths, RECT, SIZE, rect_at, vec2_at};
+use probe_values::rects::Numbers;
 
 // is_grid, prefer_right_to_left.
 #[unsafe(no_mangle)]
@@ -30,7 +28,7 @@ pub extern "C" fn placer_inspect_rect(
         1 => p.max_rect(),
         _ => p.cursor(),
     };
-    put_rect(out, r);
+    *out = r.numbers();
     0
 }
 
@@ -45,7 +43,7 @@ pub extern "C" fn placer_place_rect(lengths: &Lengths, counts: &Counts, out: &mu
         3 => p.justify_and_align(rect_at(lengths, RECT), size),
         _ => p.next_widget_space_ignore_wrap_justify(size),
     };
-    answer_rect(out, a)
+    answer_value(out, a)
 }
 
 #[unsafe(no_mangle)]
@@ -55,7 +53,7 @@ pub extern "C" fn placer_available_size(
     out: &mut [f32; 2],
 ) -> u8 {
     let p = placer_of(lengths, counts);
-    answer_size(out, p.available_size())
+    answer_value(out, p.available_size())
 }
 
 #[unsafe(no_mangle)]
@@ -65,7 +63,7 @@ pub extern "C" fn placer_next_widget_position(
     out: &mut [f32; 2],
 ) -> u8 {
     let p = placer_of(lengths, counts);
-    answer_pos(out, p.next_widget_position())
+    answer_value(out, p.next_widget_position())
 }
 
 #[unsafe(no_mangle)]
@@ -77,8 +75,6 @@ pub extern "C" fn placer_save_grid(
 ) -> u8 {
     let p = placer_of(lengths, counts);
     let a = p.save_grid();
-    let saved = a.saved;
-    put_memory(out, out_counts, saved.memory);
-    out_counts[SAVE] = count_of_flag(saved.save);
-    a.number
+    put_saved(out, out_counts, a.unwrap_or(not_saved(p.grid)));
+    number_of(a)
 }

@@ -1,13 +1,15 @@
-// The values of crate layout, and its answers.
+// The values of crates region and layout.
+ghost use Rattle.std.specs.Prelude.{◌≡◌, ◌≤◌, length};
+
 use crate::packing::{
     CROSS_ALIGN, CROSS_JUSTIFY, CURSOR, Counts, Lengths, MAIN_ALIGN, MAIN_DIR, MAIN_JUSTIFY,
-    MAIN_WRAP, MAX_RECT, MIN_RECT, put_rect_at, rect_at,
+    MAIN_WRAP, MAX_RECT, MIN_RECT, put_at, rect_at,
 };
-use crate::rects::{align_of, number_of_align, put_pos2, put_rect, put_vec2};
-use emath::{Pos2, Rect, Vec2};
+use crate::rects::{Numbers, align_of};
 use layout::Layout;
-use region::{Direction, PosAnswer, RectAnswer, Region, RegionAnswer, SizeAnswer};
+use region::{Direction, Region};
 
+// No From: each number gives a direction, and neither type is of this crate.
 pub fn direction_of(n: usize) -> Direction {
     match n {
         0 => Direction::LeftToRight,
@@ -15,19 +17,6 @@ pub fn direction_of(n: usize) -> Direction {
         2 => Direction::TopDown,
         _ => Direction::BottomUp,
     }
-}
-
-pub fn number_of_direction(d: Direction) -> u8 {
-    match d {
-        Direction::LeftToRight => 0,
-        Direction::RightToLeft => 1,
-        Direction::TopDown => 2,
-        Direction::BottomUp => 3,
-    }
-}
-
-pub fn count_of_flag(b: bool) -> usize {
-    if b { 1 } else { 0 }
 }
 
 pub fn layout_of(counts: &Counts) -> Layout {
@@ -41,16 +30,17 @@ pub fn layout_of(counts: &Counts) -> Layout {
     }
 }
 
-pub fn put_layout(counts: &mut Counts, l: Layout) {
-    let main_dir = l.main_dir;
-    let main_align = l.main_align;
-    let cross_align = l.cross_align;
-    counts[MAIN_DIR] = number_of_direction(main_dir) as usize;
-    counts[MAIN_WRAP] = count_of_flag(l.main_wrap);
-    counts[MAIN_ALIGN] = number_of_align(main_align) as usize;
-    counts[MAIN_JUSTIFY] = count_of_flag(l.main_justify);
-    counts[CROSS_ALIGN] = number_of_align(cross_align) as usize;
-    counts[CROSS_JUSTIFY] = count_of_flag(l.cross_justify);
+// Of a state, or of a heading.
+pub fn put_layout(counts: &mut [usize], l: Layout)
+    requires { 6 ≤ length counts.old }
+    ensures { length counts.new ≡ length counts.old }
+{
+    counts[MAIN_DIR] = l.main_dir as usize;
+    counts[MAIN_WRAP] = l.main_wrap as usize;
+    counts[MAIN_ALIGN] = l.main_align as usize;
+    counts[MAIN_JUSTIFY] = l.main_justify as usize;
+    counts[CROSS_ALIGN] = l.cross_align as usize;
+    counts[CROSS_JUSTIFY] = l.cross_justify as usize;
 }
 
 pub fn region_of(lengths: &Lengths) -> Region {
@@ -62,52 +52,7 @@ pub fn region_of(lengths: &Lengths) -> Region {
 }
 
 pub fn put_region(lengths: &mut Lengths, g: Region) {
-    put_rect_at(lengths, MIN_RECT, g.min_rect);
-    put_rect_at(lengths, MAX_RECT, g.max_rect);
-    put_rect_at(lengths, CURSOR, g.cursor);
-}
-
-// An answer's number; what it carries is written, and all zero where a rectangle, position or size is refused (RULES 8.4).
-pub fn answer_rect(out: &mut [f32; 4], a: RectAnswer) -> u8 {
-    match a {
-        RectAnswer::Placed(r) => {
-            put_rect(out, r);
-            0
-        }
-        RectAnswer::Refused(n) => {
-            put_rect(out, Rect::ZERO);
-            n
-        }
-    }
-}
-
-pub fn answer_pos(out: &mut [f32; 2], a: PosAnswer) -> u8 {
-    match a {
-        PosAnswer::Found(p) => {
-            put_pos2(out, p);
-            0
-        }
-        PosAnswer::Refused(n) => {
-            put_pos2(out, Pos2::ZERO);
-            n
-        }
-    }
-}
-
-pub fn answer_size(out: &mut [f32; 2], a: SizeAnswer) -> u8 {
-    match a {
-        SizeAnswer::Measured(v) => {
-            put_vec2(out, v);
-            0
-        }
-        SizeAnswer::Refused(n) => {
-            put_vec2(out, Vec2::ZERO);
-            n
-        }
-    }
-}
-
-pub fn answer_region(lengths: &mut Lengths, a: RegionAnswer) -> u8 {
-    put_region(lengths, a.region);
-    a.number
+    put_at(lengths, MIN_RECT, &g.min_rect.numbers());
+    put_at(lengths, MAX_RECT, &g.max_rect.numbers());
+    put_at(lengths, CURSOR, &g.cursor.numbers());
 }

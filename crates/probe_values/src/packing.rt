@@ -1,5 +1,6 @@
 // A state and the arguments of a call, packed in one array of lengths and one of counts. This file says what stands where, as
-// oracle/packing/src/lib.rs does for the Rust. A call reads and writes the places that it has a use for, and no others.
+// oracle/packing/src/lib.rs does for the Rust. A call reads and writes the places that it has a use for, and no others. The two arrays go side
+// by side through every function, and no struct holds them, since C lends them apart.
 ghost use Rattle.std.specs.Prelude.{◌≡◌, ◌+◌, ◌≤◌, length};
 
 use emath::{Rect, Vec2};
@@ -71,8 +72,8 @@ pub const PREV_COUNTS: usize = ROW + 1;
 
 pub const CURR_COUNTS: usize = PREV_COUNTS + 2;
 
-// Arguments and answers: which of an entry point's calls is meant; a column, a row, or the record at fault; whether the memory is
-// known; whether it is to be saved.
+// Arguments and answers: which of an entry point's calls is meant, a number since C gives it; a column, a row, or the record at fault; whether
+// the memory is known; whether it is to be saved.
 pub const CALL: usize = CURR_COUNTS + 2;
 
 pub const PLACE: usize = CALL + 1;
@@ -81,8 +82,8 @@ pub const KNOWN: usize = PLACE + 1;
 
 pub const SAVE: usize = KNOWN + 1;
 
-pub fn rect_at(lengths: &Lengths, at: usize) -> Rect
-    requires { at + 4 ≤ 384 }
+pub fn rect_at(lengths: &[f32], at: usize) -> Rect
+    requires { at + 4 ≤ length lengths.now }
 {
     Rect {
         left: lengths[at],
@@ -92,17 +93,8 @@ pub fn rect_at(lengths: &Lengths, at: usize) -> Rect
     }
 }
 
-pub fn put_rect_at(lengths: &mut Lengths, at: usize, r: Rect)
-    requires { at + 4 ≤ 384 }
-{
-    lengths[at] = r.left;
-    lengths[at + 1] = r.top;
-    lengths[at + 2] = r.right;
-    lengths[at + 3] = r.bottom;
-}
-
-pub fn vec2_at(lengths: &Lengths, at: usize) -> Vec2
-    requires { at + 2 ≤ 384 }
+pub fn vec2_at(lengths: &[f32], at: usize) -> Vec2
+    requires { at + 2 ≤ length lengths.now }
 {
     Vec2 {
         x: lengths[at],
@@ -110,22 +102,9 @@ pub fn vec2_at(lengths: &Lengths, at: usize) -> Vec2
     }
 }
 
-pub fn put_vec2_at(lengths: &mut Lengths, at: usize, v: Vec2)
-    requires { at + 2 ≤ 384 }
+pub fn put_at(lengths: &mut [f32], at: usize, numbers: &[f32])
+    requires { at + length numbers.now ≤ length lengths.old }
+    ensures { length lengths.new ≡ length lengths.old }
 {
-    lengths[at] = v.x;
-    lengths[at + 1] = v.y;
-}
-
-// The `n` lengths of one that begin at `start`, to places of another that begin at `at`.
-pub fn copy(to: &mut [f32], at: usize, from: &[f32], start: usize, n: usize)
-    requires in_to { at + n ≤ length to.old }
-    requires in_from { start + n ≤ length from.now }
-    ensures { length to.new ≡ length to.old }
-{
-    let mut i: usize = 0;
-    while i < n {
-        to[at + i] = from[start + i];
-        i += 1;
-    }
+    lengths[at..at + numbers.len()].copy_from_slice(numbers);
 }

@@ -1,6 +1,48 @@
 // The values of crate emath.
+use crate::packing::rect_at;
 use emath::{Align, Align2, Pos2, Rangef, Rect, Vec2};
 
+// A value as an array of its numbers.
+pub trait Numbers<const N: usize>: Copy {
+    fn numbers(self) -> [f32; N];
+}
+
+impl Numbers<4> for Rect {
+    fn numbers(self) -> [f32; 4] {
+        [self.left, self.top, self.right, self.bottom]
+    }
+}
+
+impl Numbers<2> for Vec2 {
+    fn numbers(self) -> [f32; 2] {
+        [self.x, self.y]
+    }
+}
+
+impl Numbers<2> for Pos2 {
+    fn numbers(self) -> [f32; 2] {
+        [self.x, self.y]
+    }
+}
+
+impl Numbers<2> for Rangef {
+    fn numbers(self) -> [f32; 2] {
+        [self.min, self.max]
+    }
+}
+
+// The length, and 1 where there is one.
+impl Numbers<2> for Option<f32> {
+    fn numbers(self) -> [f32; 2] {
+        self.map_or([0.0, 0.0], |x| [x, 1.0])
+    }
+}
+
+pub fn rect_of(v: &[f32; 4]) -> Rect {
+    rect_at(v, 0)
+}
+
+// No From: each number gives an align, and neither type is of this crate.
 pub fn align_of(n: usize) -> Align {
     match n {
         0 => Align::Min,
@@ -16,64 +58,7 @@ pub fn align2_of(across: usize, down: usize) -> Align2 {
     }
 }
 
-pub fn rect_of(v: &[f32; 4]) -> Rect {
-    Rect {
-        left: v[0],
-        top: v[1],
-        right: v[2],
-        bottom: v[3],
-    }
-}
-
-pub fn put_rect(out: &mut [f32; 4], r: Rect) {
-    out[0] = r.left;
-    out[1] = r.top;
-    out[2] = r.right;
-    out[3] = r.bottom;
-}
-
-pub fn put_vec2(out: &mut [f32; 2], v: Vec2) {
-    out[0] = v.x;
-    out[1] = v.y;
-}
-
-pub fn put_pos2(out: &mut [f32; 2], p: Pos2) {
-    out[0] = p.x;
-    out[1] = p.y;
-}
-
-pub fn put_range(out: &mut [f32; 2], r: Rangef) {
-    out[0] = r.min;
-    out[1] = r.max;
-}
-
-pub fn number_of_align(a: Align) -> u8 {
-    match a {
-        Align::Min => 0,
-        Align::Center => 1,
-        Align::Max => 2,
-    }
-}
-
 // Its two aligns, as 3 times the one across and the one down.
 pub fn code_of(a: Align2) -> u8 {
-    let across = a.x;
-    let down = a.y;
-    match across {
-        Align::Min => match down {
-            Align::Min => 0,
-            Align::Center => 1,
-            Align::Max => 2,
-        },
-        Align::Center => match down {
-            Align::Min => 3,
-            Align::Center => 4,
-            Align::Max => 5,
-        },
-        Align::Max => match down {
-            Align::Min => 6,
-            Align::Center => 7,
-            Align::Max => 8,
-        },
-    }
+    3 * (a.x as u8) + a.y as u8
 }

@@ -22,21 +22,13 @@ use region::{Region, regions};
 fn settled(placer: PlacerSettings, state: PassState, before: Option<Refusal>, region: Region) -> Result<PassState, Refusal>
     ensures { (pw ph ws hs : List Float) → placer_fault (placer_of placer state pw ph ws hs) ≡ 0 → answer_of placer state result pw ph ws hs ≡ changed_placer (least (placer_fault (placer_of placer state pw ph ws hs) ∷ fault_number before ∷ [])) (placer_of placer state pw ph ws hs) (with_region (placer_of placer state pw ph ws hs) region) }
 {
-    let l = placer.layout;
-    let d = l.main_dir;
-    let mut new = state;
-    new.region = region;
-    answer(
-        before.or(outside_domain(region_fault(d, region))),
-        new,
-    )
+    let after = outside_domain(region_fault(placer.layout.main_dir, region));
+    answer(before.or(after), PassState { region, ..state })
 }
 
 pub fn advance_cursor(placer: PlacerSettings, state: PassState, amount: f32) -> Result<PassState, Refusal>
     ensures { (pw ph ws hs : List Float) → placer_fault (placer_of placer state pw ph ws hs) ≡ 0 → answer_of placer state result pw ph ws hs ≡ checked_advance_cursor (placer_of placer state pw ph ws hs) amount }
 {
-    let l = placer.layout;
-    let d = l.main_dir;
     let before = first_of(
         length_fault(amount),
         placer.has_grid.then_some(Refusal::NotInGrid),
@@ -45,7 +37,7 @@ pub fn advance_cursor(placer: PlacerSettings, state: PassState, amount: f32) -> 
         placer,
         state,
         before,
-        cursors::advance_cursor(d, state.region, amount),
+        cursors::advance_cursor(placer.layout.main_dir, state.region, amount),
     )
 }
 
@@ -108,19 +100,13 @@ pub fn set_min_height(placer: PlacerSettings, state: PassState, height: f32) -> 
 fn row_ended(placer: PlacerSettings, state: PassState, before: Option<Refusal>, heights: &[f32]) -> Result<PassState, Refusal>
     ensures { (pw ph ws : List Float) (sp : Spacing) → placer.has_grid ≡ true → placer_fault (placer_of placer state pw ph ws heights.now) ≡ 0 → answer_of placer state result pw ph ws heights.now ≡ changed_placer (least (placer_fault (placer_of placer state pw ph ws heights.now) ∷ fault_number before ∷ [])) (placer_of placer state pw ph ws heights.now) (end_row (placer_of placer state pw ph ws heights.now) sp) }
 {
-    let l = placer.layout;
-    let d = l.main_dir;
-    let g = state.region;
-    let r = regions::with_cursor(
-        g,
-        lent::ended_cursor(placer.grid, state.grid, heights, g.cursor),
+    let region = regions::with_cursor(
+        state.region,
+        lent::ended_cursor(placer.grid, state.grid, heights, state.region.cursor),
     );
-    let row = lent::end_row(state.grid);
-    let new = PassState {
-        region: r,
-        grid: row,
-    };
-    answer(before.or(outside_domain(region_fault(d, r))), new)
+    let grid = lent::end_row(state.grid);
+    let after = outside_domain(region_fault(placer.layout.main_dir, region));
+    answer(before.or(after), PassState { region, grid })
 }
 
 pub fn end_row(
@@ -131,11 +117,9 @@ pub fn end_row(
 ) -> Result<PassState, Refusal>
     ensures { (pw ph ws : List Float) → placer_fault (placer_of placer state pw ph ws heights.now) ≡ 0 → answer_of placer state result pw ph ws heights.now ≡ checked_end_row (placer_of placer state pw ph ws heights.now) item_spacing }
 {
-    let g = state.grid;
-    let row = g.row;
     let before = first_of(
         pair_fault(item_spacing.x, item_spacing.y),
-        row_fault(placer.has_grid, row),
+        row_fault(placer.has_grid, state.grid.row),
     );
     if placer.has_grid {
         return row_ended(placer, state, before, heights);

@@ -18,10 +18,11 @@ use region::faults::{region_fault, zero_region};
 fn grid_part(placer: Placer) -> Option<Refusal>
     ensures { fault_number result ≡ grid_part placer }
 {
-    let l = placer.layout;
-    let d = l.main_dir;
     if placer.has_grid {
-        return first_of(grid_fault(placer.grid), direction_fault(d));
+        return first_of(
+            grid_fault(placer.grid),
+            direction_fault(placer.layout.main_dir),
+        );
     }
     None
 }
@@ -29,9 +30,10 @@ fn grid_part(placer: Placer) -> Option<Refusal>
 pub fn placer_fault(placer: Placer) -> Option<Refusal>
     ensures { fault_number result ≡ placer_fault placer }
 {
-    let l = placer.layout;
-    let d = l.main_dir;
-    first_of(region_fault(d, placer.region), grid_part(placer))
+    first_of(
+        region_fault(placer.layout.main_dir, placer.region),
+        grid_part(placer),
+    )
 }
 
 // No room for a cell, or for a row.
@@ -53,28 +55,24 @@ pub fn row_fault(has_grid: bool, row: usize) -> Option<Refusal>
 pub fn advance_fault(placer: Placer) -> Option<Refusal>
     ensures { fault_number result ≡ advance_fault placer }
 {
-    let g = placer.grid;
-    cell_fault(placer.has_grid, g.col, g.row)
+    cell_fault(placer.has_grid, placer.grid.col, placer.grid.row)
 }
 
 pub fn end_row_fault(placer: Placer) -> Option<Refusal>
     ensures { fault_number result ≡ end_row_fault placer }
 {
-    let g = placer.grid;
-    row_fault(placer.has_grid, g.row)
+    row_fault(placer.has_grid, placer.grid.row)
 }
 
 // What `new` answers when it is refused.
 pub fn zero_placer(layout: Layout) -> Placer
     ensures { result ≡ zero_placer layout }
 {
-    let g = empty_grid();
-    let r = zero_region();
     Placer {
         has_grid: false,
-        grid: g,
-        layout: layout,
-        region: r,
+        grid: empty_grid(),
+        layout,
+        region: zero_region(),
     }
 }
 

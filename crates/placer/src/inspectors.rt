@@ -12,8 +12,7 @@ impl Placer {
     pub fn grid(self) -> GridLayout
         ensures { result ≡ self.grid }
     {
-        let g = self.grid;
-        g
+        self.grid
     }
 
     pub fn is_grid(self) -> bool
@@ -25,38 +24,30 @@ impl Placer {
     pub fn layout(self) -> Layout
         ensures { result ≡ self.layout }
     {
-        let l = self.layout;
-        l
+        self.layout
     }
 
     pub fn prefer_right_to_left(self) -> bool
         ensures { result ≡ prefer_right_to_left self.layout }
     {
-        let l = self.layout;
-        l.prefer_right_to_left()
+        self.layout.prefer_right_to_left()
     }
 
     pub fn min_rect(self) -> Rect
         ensures { result ≡ self.region.min_rect }
     {
-        let g = self.region;
-        let r = g.min_rect;
-        r
+        self.region.min_rect
     }
 
     pub fn max_rect(self) -> Rect
         ensures { result ≡ self.region.max_rect }
     {
-        let g = self.region;
-        let r = g.max_rect;
-        r
+        self.region.max_rect
     }
 
     pub fn cursor(self) -> Rect
         ensures { result ≡ self.region.cursor }
     {
-        let g = self.region;
-        let r = g.cursor;
-        r
+        self.region.cursor
     }
 }

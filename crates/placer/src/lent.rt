@@ -20,20 +20,18 @@ use region::{Region, regions};
 pub fn settings(placer: Placer) -> PlacerSettings
     ensures { result ≡ settings_of placer }
 {
-    let layout = placer.layout;
     PlacerSettings {
         has_grid: placer.has_grid,
         grid: lent::settings(placer.grid),
-        layout: layout,
+        layout: placer.layout,
     }
 }
 
 pub fn state(placer: Placer) -> PassState
     ensures { result ≡ state_of placer }
 {
-    let region = placer.region;
     PassState {
-        region: region,
+        region: placer.region,
         grid: lent::state(placer.grid),
     }
 }
@@ -48,13 +46,11 @@ pub fn whole(
 ) -> Placer
     ensures { result ≡ placer_of placer state prev.col_widths prev.row_heights widths heights }
 {
-    let layout = placer.layout;
-    let region = state.region;
     Placer {
         has_grid: placer.has_grid,
         grid: lent::whole(placer.grid, state.grid, prev, widths, heights),
-        layout: layout,
-        region: region,
+        layout: placer.layout,
+        region: state.region,
     }
 }
 
@@ -68,18 +64,17 @@ pub fn next_space(
 ) -> Rect
     ensures { (ws hs : List Float) → result ≡ next_space tick (placer_of placer state prev_widths.now prev_heights.now ws hs) child_size item_spacing }
 {
-    let g = state.region;
     if placer.has_grid {
         return lent::next_cell(
             placer.grid,
             state.grid,
             prev_widths,
             prev_heights,
-            g.cursor,
+            state.region.cursor,
             child_size,
         );
     }
-    frames::next_frame(placer.layout, g, child_size, item_spacing)
+    frames::next_frame(placer.layout, state.region, child_size, item_spacing)
 }
 
 pub fn justify_and_align(
@@ -106,13 +101,17 @@ fn cursor_past(
 ) -> Rect
     ensures { (ph ws hs : List Float) → result ≡ (moved_past (placer_of placer state prev_widths.now ph ws hs) frame_rect widget_rect item_spacing).region.cursor }
 {
-    let g = state.region;
     if placer.has_grid {
-        return lent::advanced_cursor(placer.grid, state.grid, prev_widths, g.cursor);
+        return lent::advanced_cursor(
+            placer.grid,
+            state.grid,
+            prev_widths,
+            state.region.cursor,
+        );
     }
     cursors::advance_after_rects(
         placer.layout,
-        g.cursor,
+        state.region.cursor,
         frame_rect,
         widget_rect,
         item_spacing,
@@ -170,10 +169,8 @@ pub fn past_fault(
 ) -> Option<Refusal>
     ensures { (pw ph : List Float) → fault_number result ≡ past_part (placer_of placer state pw ph widths.now heights.now) region widget_rect }
 {
-    let l = placer.layout;
-    let d = l.main_dir;
     first_of(
-        region_fault(d, region),
+        region_fault(placer.layout.main_dir, region),
         raised_fault(placer, state, widths, heights, widget_rect),
     )
 }
@@ -191,15 +188,8 @@ pub fn advance(
     ensures { (pw ph : List Float) (f : Frame) (sp : Spacing) → region ≡ (advance_after_rects (placer_of placer state pw ph widths.old heights.old) f widget_rect sp).region → placer_of placer result pw ph widths.new heights.new ≡ advance_after_rects (placer_of placer state pw ph widths.old heights.old) f widget_rect sp }
 {
     if placer.has_grid {
-        let g = lent::advance(placer.grid, state.grid, widths, heights, widget_rect);
-        return PassState {
-            region: region,
-            grid: g,
-        };
+        let grid = lent::advance(placer.grid, state.grid, widths, heights, widget_rect);
+        return PassState { region, grid };
     }
-    let g = state.grid;
-    PassState {
-        region: region,
-        grid: g,
-    }
+    PassState { region, ..state }
 }

@@ -18,33 +18,43 @@ use region::regions::{expand_to_include_x, expand_to_include_y};
 fn limited_across(region: Region, rect: Rect) -> Region
     ensures { result ≡ limited_across region rect }
 {
-    let mut m = region.max_rect;
-    m.left = rect.left;
-    m.right = rect.right;
-    let n = m.union(region.min_rect);
-    let mut c = region.cursor;
-    c.left = n.left;
-    c.right = n.right;
-    let mut g = region;
-    g.max_rect = n;
-    g.cursor = c;
-    g
+    let limit = Rect {
+        left: rect.left,
+        right: rect.right,
+        ..region.max_rect
+    };
+    let max_rect = limit.union(region.min_rect);
+    let cursor = Rect {
+        left: max_rect.left,
+        right: max_rect.right,
+        ..region.cursor
+    };
+    Region {
+        max_rect,
+        cursor,
+        ..region
+    }
 }
 
 fn limited_down(region: Region, rect: Rect) -> Region
     ensures { result ≡ limited_down region rect }
 {
-    let mut m = region.max_rect;
-    m.top = rect.top;
-    m.bottom = rect.bottom;
-    let n = m.union(region.min_rect);
-    let mut c = region.cursor;
-    c.top = n.top;
-    c.bottom = n.bottom;
-    let mut g = region;
-    g.max_rect = n;
-    g.cursor = c;
-    g
+    let limit = Rect {
+        top: rect.top,
+        bottom: rect.bottom,
+        ..region.max_rect
+    };
+    let max_rect = limit.union(region.min_rect);
+    let cursor = Rect {
+        top: max_rect.top,
+        bottom: max_rect.bottom,
+        ..region.cursor
+    };
+    Region {
+        max_rect,
+        cursor,
+        ..region
+    }
 }
 
 pub fn max_width(layout: Layout, region: Region, width: f32) -> Region

@@ -33,10 +33,8 @@ impl Placer {
     pub fn set_grid(self, grid: GridLayout) -> Result<Placer, Refusal>
         ensures { placer_outcome self result ≡ checked_set_grid self grid }
     {
-        let l = self.layout;
-        let d = l.main_dir;
         let new = rules::set_grid(self, grid);
-        let rest = first_of(grid_fault(grid), direction_fault(d));
+        let rest = first_of(grid_fault(grid), direction_fault(self.layout.main_dir));
         changed_placer(first_of(placer_fault(self), rest), new)
     }
 
@@ -59,11 +57,9 @@ impl Placer {
     pub fn set_cursor(self, cursor: Rect) -> Result<Placer, Refusal>
         ensures { placer_outcome self result ≡ checked_set_cursor self cursor }
     {
-        let l = self.layout;
-        let d = l.main_dir;
         let new = rules::set_cursor(self, cursor);
         changed_placer(
-            first_of(placer_fault(self), cursor_fault(d, cursor)),
+            first_of(placer_fault(self), cursor_fault(self.layout.main_dir, cursor)),
             new,
         )
     }

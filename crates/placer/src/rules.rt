@@ -13,23 +13,22 @@ use region::{Region, regions};
 pub fn new_placer(max_rect: Rect, layout: Layout) -> Placer
     ensures { result ≡ new_placer tick max_rect layout }
 {
-    let g = grids::empty_grid();
-    let r = widgets::region_from_max_rect(layout, max_rect);
     Placer {
         has_grid: false,
-        grid: g,
-        layout: layout,
-        region: r,
+        grid: grids::empty_grid(),
+        layout,
+        region: widgets::region_from_max_rect(layout, max_rect),
     }
 }
 
 pub fn set_grid(placer: Placer, grid: GridLayout) -> Placer
     ensures { result ≡ set_grid placer grid }
 {
-    let mut p = placer;
-    p.has_grid = true;
-    p.grid = grid;
-    p
+    Placer {
+        has_grid: true,
+        grid,
+        ..placer
+    }
 }
 
 // Without a grid there is nothing to save.
@@ -39,9 +38,8 @@ pub fn save_grid(placer: Placer) -> Saved
     if placer.has_grid {
         return grids::save(placer.grid);
     }
-    let m = empty_memory();
     Saved {
-        memory: m,
+        memory: empty_memory(),
         save: false,
     }
 }
@@ -49,17 +47,19 @@ pub fn save_grid(placer: Placer) -> Saved
 pub fn with_region(placer: Placer, region: Region) -> Placer
     ensures { result ≡ with_region placer region }
 {
-    let mut p = placer;
-    p.region = region;
-    p
+    Placer { region, ..placer }
 }
 
 pub fn force_set_min_rect(placer: Placer, min_rect: Rect) -> Placer
     ensures { result ≡ force_set_min_rect placer min_rect }
 {
-    let mut g = placer.region;
-    g.min_rect = min_rect;
-    with_region(placer, g)
+    with_region(
+        placer,
+        Region {
+            min_rect,
+            ..placer.region
+        },
+    )
 }
 
 pub fn set_cursor(placer: Placer, cursor: Rect) -> Placer
@@ -83,9 +83,7 @@ fn available_rect(placer: Placer) -> Rect
     if placer.has_grid {
         return grids::available_rect(placer.grid, placer.region);
     }
-    let l = placer.layout;
-    let d = l.main_dir;
-    available::available_rect_before_wrap(d, placer.region)
+    available::available_rect_before_wrap(placer.layout.main_dir, placer.region)
 }
 
 pub fn available_rect_before_wrap(placer: Placer) -> Rect
@@ -106,21 +104,19 @@ pub fn available_size(placer: Placer) -> Vec2
 pub fn next_space(placer: Placer, child_size: Vec2, item_spacing: Vec2) -> Rect
     ensures { result ≡ next_space tick placer child_size item_spacing }
 {
-    let g = placer.region;
     if placer.has_grid {
-        return grids::next_cell(placer.grid, g.cursor, child_size);
+        return grids::next_cell(placer.grid, placer.region.cursor, child_size);
     }
-    frames::next_frame(placer.layout, g, child_size, item_spacing)
+    frames::next_frame(placer.layout, placer.region, child_size, item_spacing)
 }
 
 pub fn next_widget_position(placer: Placer) -> Pos2
     ensures { result ≡ next_widget_position tick placer }
 {
-    let g = placer.region;
     if placer.has_grid {
-        return grids::next_cell(placer.grid, g.cursor, Vec2::ZERO).center();
+        return grids::next_cell(placer.grid, placer.region.cursor, Vec2::ZERO).center();
     }
-    widgets::next_widget_position(placer.layout, g)
+    widgets::next_widget_position(placer.layout, placer.region)
 }
 
 pub fn justify_and_align(placer: Placer, rect: Rect, child_size: Vec2) -> Rect
@@ -135,25 +131,23 @@ pub fn justify_and_align(placer: Placer, rect: Rect, child_size: Vec2) -> Rect
 pub fn advance_cursor(placer: Placer, amount: f32) -> Placer
     ensures { result ≡ advance_cursor placer amount }
 {
-    let l = placer.layout;
-    let d = l.main_dir;
-    with_region(placer, cursors::advance_cursor(d, placer.region, amount))
+    with_region(
+        placer,
+        cursors::advance_cursor(placer.layout.main_dir, placer.region, amount),
+    )
 }
 
 // The grid or the layout moves the cursor.
 fn moved_past(placer: Placer, frame_rect: Rect, widget_rect: Rect, item_spacing: Vec2) -> Placer
     ensures { result ≡ moved_past placer frame_rect widget_rect item_spacing }
 {
-    let g = placer.region;
     if placer.has_grid {
-        let m = grids::advance(placer.grid, g.cursor, widget_rect);
-        let c = m.grid;
-        let p = set_cursor(placer, m.cursor);
-        return set_grid(p, c);
+        let m = grids::advance(placer.grid, placer.region.cursor, widget_rect);
+        return set_grid(set_cursor(placer, m.cursor), m.grid);
     }
     let c = cursors::advance_after_rects(
         placer.layout,
-        g.cursor,
+        placer.region.cursor,
         frame_rect,
         widget_rect,
         item_spacing,
@@ -179,14 +173,14 @@ pub fn advance_after_rects(
 pub fn end_row(placer: Placer, item_spacing: Vec2) -> Placer
     ensures { result ≡ end_row placer item_spacing }
 {
-    let g = placer.region;
     if placer.has_grid {
-        let m = grids::end_row(placer.grid, g.cursor);
-        let c = m.grid;
-        let p = set_cursor(placer, m.cursor);
-        return set_grid(p, c);
+        let m = grids::end_row(placer.grid, placer.region.cursor);
+        return set_grid(set_cursor(placer, m.cursor), m.grid);
     }
-    with_region(placer, cursors::end_row(placer.layout, g, item_spacing))
+    with_region(
+        placer,
+        cursors::end_row(placer.layout, placer.region, item_spacing),
+    )
 }
 
 // The layout is asked even in a grid.

@@ -3,4 +3,4 @@ use Rattle.placer.proofs.limits.limited_down.Goals as goal
 
 pub returns : goal.returns
 unfolding limited_down
-returns c = rw c.union-n.ensures
+returns c = rw c.union-max_rect.ensures

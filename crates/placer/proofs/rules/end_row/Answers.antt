@@ -3,7 +3,7 @@ use Rattle.placer.proofs.rules.end_row.Goals as goal
 
 pub returns-then-placer : goal.returns-then-placer
 unfolding end_row
-returns-then-placer c = rw (c.set_grid.ensures, c.set_cursor-p.ensures, c.end_row-m.ensures, c.if-placer.true)
+returns-then-placer c = rw (c.set_grid.ensures, c.set_cursor.ensures, c.end_row-m.ensures, c.if-placer.true)
 
 pub returns : goal.returns
 unfolding end_row

@@ -3,4 +3,4 @@ use Rattle.placer.proofs.rules.new_placer.Goals as goal
 
 pub returns : goal.returns
 unfolding new_placer
-returns c = rw (c.region_from_max_rect-r.ensures, c.empty_grid-g.ensures)
+returns c = rw (c.region_from_max_rect.ensures, c.empty_grid.ensures)

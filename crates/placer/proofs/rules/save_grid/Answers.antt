@@ -7,4 +7,4 @@ returns-then-placer c = rw (c.if-placer.true, c.save.ensures)
 
 pub returns : goal.returns
 unfolding save_grid
-returns c = rw (c.if-placer.false, c.empty_memory-m.ensures)
+returns c = rw (c.if-placer.false, c.empty_memory.ensures)

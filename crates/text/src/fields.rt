@@ -1,7 +1,7 @@
 // RULES 6.2 to 6.4: a whole number in eight columns, read and written.
 ghost use Rattle.std.specs.Prelude.{◌≡◌, ◌==◌, not, ◌+◌, ◌≤◌, ◌<◌, length, nat_abs, position, IfSome};
 ghost use Rattle.std.proofs.lemmas.List.Edits.{sets};
-ghost use Rattle.text.specs.Fields.{columns, field, field_at, has_text, negative, written_at};
+ghost use Rattle.text.specs.Fields.{field, field_at, has_text, text, written_at};
 ghost use Rattle.text.specs.Implementation.Scanning.{value_from, unsigned as unsigned_of, plus as plus_of, minus as minus_of, signed as signed_of};
 
 use crate::Field;
@@ -131,28 +131,31 @@ pub fn magnitude(z: i32) -> u32
     z as u32
 }
 
-// Writes a number that has a text.
+fn put_text(columns: &mut [u8], z: i32)
+    requires { (8 ≡ length columns.old) × (nat_abs z < 100000000) }
+    ensures { columns.new ≡ text z }
+{
+    let Some(columns) = columns.as_mut_array() else {
+        unreachable!()
+    };
+    put(columns, z < 0, magnitude(z));
+}
+
+// Writes a number that has a text in the eight columns from `at`.
 pub(crate) fn put_signed(out: &mut [u8], at: usize, z: i32)
     requires { (at + 8 ≤ length out.old) × (nat_abs z < 100000000) }
-    ensures { out.new ≡ sets out.old at (columns (negative z) (nat_abs z) 8) }
+    ensures { out.new ≡ sets out.old at (text z) }
 {
-    put(out, at, z < 0, magnitude(z));
+    put_text(&mut out[at..at + 8], z);
 }
 
 // Writes z in the eight columns from `at`, where it has a text and they are there; else nothing is written, and the answer is false.
 pub fn write_field(out: &mut [u8], at: usize, z: i32) -> bool
     ensures { (result, out.new) ≡ written_at out.old at z }
 {
-    let n = out.len();
-    if n < 8 {
+    if out.len() < 8 || out.len() - 8 < at || !has_text(z) {
         return false;
     }
-    if n - 8 < at {
-        return false;
-    }
-    if has_text(z) {
-        put_signed(out, at, z);
-        return true;
-    }
-    false
+    put_signed(out, at, z);
+    true
 }

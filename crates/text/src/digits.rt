@@ -1,9 +1,9 @@
 // RULES 6.4: the digit writer. Digits are what divisions leave, the last ones first, two at a time since each quotient waits for the one before.
-ghost use Rattle.std.specs.Prelude.{◌≡◌, ◌+◌, ◌-◌, ◌≤◌, ◌<◌, length};
+ghost use Rattle.std.specs.Prelude.{◌≡◌, ◌+◌, ◌≤◌, ◌<◌};
 ghost use Rattle.text.specs.Fields.{columns};
 ghost use Rattle.text.specs.Implementation.Writing.{pair_put, first_put, DigitsPut};
 
-// Writes the two digits of n.
+// Writes the two digits of n. What a division leaves is the product's difference, here and below: with `%` the program is longer, and slower by a twentieth.
 fn put_pair(out: &mut [u8; 8], at: usize, n: u32)
     requires { (at + 2 ≤ 8) × (n < 100) }
     ensures { out.new ≡ pair_put out.old at n }
@@ -27,7 +27,7 @@ fn put_first(out: &mut [u8; 8], end: usize, n: u32) -> usize
     }
 }
 
-// Writes the digits of n in the last columns; answers where they begin. The quotient says how many turns there are.
+// Writes the digits of n in the last columns; answers where they begin. The loop goes over the quotients, and how many there are only they say.
 fn put_digits(out: &mut [u8; 8], n: u32) -> usize
     requires { n < 100000000 }
     ensures { DigitsPut n out.old 8 result out.new }
@@ -44,7 +44,7 @@ fn put_digits(out: &mut [u8; 8], n: u32) -> usize
 }
 
 // Writes the eight columns of a number: spaces, the digits over the last of them, and the minus left of these where there is room.
-// Where they are lent: made by value and then copied they are read as one word while its bytes are still being stored, and each takes half as long again.
+// The columns are lent: as an array that is returned and copied they would be read as one word while its bytes are still being stored.
 pub(crate) fn put(out: &mut [u8; 8], neg: bool, n: u32)
     requires { n < 100000000 }
     ensures { out.new ≡ columns neg n 8 }

@@ -115,20 +115,14 @@ pub fn read_field(text: &[u8], at: usize, limit: u32) -> Field
 pub fn has_text(z: i32) -> bool
     ensures { result ≡ has_text z }
 {
-    if z < 0 - 9999999 {
-        return false;
-    }
-    z < 100000000
+    (-9_999_999..=99_999_999).contains(&z)
 }
 
 pub fn magnitude(z: i32) -> u32
     requires { nat_abs z < 100000000 }
     ensures { result ≡ nat_abs z }
 {
-    if z < 0 {
-        return (0 - z) as u32;
-    }
-    z as u32
+    z.unsigned_abs()
 }
 
 fn put_text(columns: &mut [u8], z: i32)

@@ -1,6 +1,6 @@
 -- Reading from the left in one go is reading against the number's text. Assumes nothing.
 use Rattle.std.proofs.Common.{ℕ, zero, suc, ◌+◌, ◌-◌, ◌*◌, ◌/◌, ◌%◌, ◌^◌, max, ◌≤◌, ◌<◌, ◌≡◌, refl, ap, sym, ◌∙◌, List, [], ◌∷◌, length, Bool, true, false, cond, true≢false, Option, Some, None, ℤ, pos, negsuc, neg_ℤ, nat_abs, leb, ltb, eqb, arith, pow-suc, div-one, div-lt_iff_lt-mul, le-div_iff_mul-le, lt-ltb, le-ltb, le-leb, eq-eqb, ne_eqb, leb-true, leb-false, ltb-true}
-use native.Mathlib.Nat.{div-eq_of_lt}
+use Rattle.std.proofs.Math.Nat.{div-eq_of_lt}
 use Rattle.text.specs.Fields.{shown, column, columns, text, has_text, digits_from, same, blank, number_of, field}
 use Rattle.text.specs.Implementation.Scanning.{value_from, zero_only, unsigned, plus, minus, signed, scan}
 use Rattle.text.specs.declared.Field.{Field}

@@ -1,13 +1,5 @@
 -- A number of three or four digits, from its columns. Assumes nothing.
-use Prim.Native.Nat.{ℕ, ◌+◌, ◌-◌, ◌*◌, ◌≤◌, ◌<◌}
-use mathlib.Core.Path.{◌≡◌, refl, sym, ◌∙◌}
-use mathlib.Core.List.{List}
-use mathlib.Core.Bool.{Bool, true, false, cond, ◌&&◌, true≢false}
-use native.Mathlib.Omega.{arith}
-use borrow.Author.Tests.{eqb-true}
-use lib.Dec.{eqb}
-use Rattle.std.proofs.Common.{Option, Some, None, IfSome, ap}
-use lib.ListN.{length, get_or, drop}
+use Rattle.std.proofs.Common.{ℕ, ◌+◌, ◌-◌, ◌*◌, ◌≤◌, ◌<◌, ◌≡◌, refl, sym, ◌∙◌, List, Bool, true, false, cond, ◌&&◌, true≢false, arith, eqb-true, eqb, Option, Some, None, IfSome, ap, length, get_or, drop}
 use Rattle.text.specs.Implementation.Scanning.{value_from, plus, scan, Skips}
 use Rattle.text.specs.Implementation.Short.{Digit, Reads}
 use Rattle.text.proofs.ScanTurns.{from, value-turn, value-end, digits-read, scan-turn, scan-stop}

@@ -1,8 +1,7 @@
 -- Signed numbers of 32 bits: their magnitudes, and which of them have a text. Assumes nothing.
-use Rattle.std.proofs.Common.{ℕ, zero, suc, ◌<◌, zero-le, ◌≡◌, refl, ap, sym, ◌∙◌, subst, Bool, true, false, cond, ◌&&◌, ltb, lit<, T, arith, ℤ, pos, negsuc, neg_ℤ, nat_abs, ◌-ℤ◌, Less, Equal, Greater, is_le, int_cmp, le-ltb, lt-ltb, ltb-true, ltb-false, w32, Fits, SFits, to_z, of_z}
-use mir.ValLaws.{to_z-of_z}
-use lib.IntN.{+ℤ_idl}
-use lib.Signed.{lt_z}
+use Rattle.std.proofs.Common.{int_lt, ℕ, zero, suc, ◌<◌, zero-le, ◌≡◌, refl, ap, sym, ◌∙◌, subst, Bool, true, false, cond, ◌&&◌, ltb, lit<, T, arith, ℤ, pos, negsuc, neg_ℤ, nat_abs, ◌-ℤ◌, Less, Equal, Greater, is_le, int_cmp, le-ltb, lt-ltb, ltb-true, ltb-false, w32, Fits, SFits, to_z, of_z, to_z-of_z}
+use Rattle.std.proofs.Math.IntN.{+ℤ_idl}
+
 use Rattle.text.specs.Fields.{negative, has_text}
 
 neg-fits : (z : ℤ) → nat_abs z < 100000000 → SFits w32 (neg_ℤ z)
@@ -10,17 +9,17 @@ neg-fits (pos zero) h = record { sfits = lit< tt }
 neg-fits (pos (suc m)) h = record { sfits = omega arith }
 neg-fits (negsuc m) h = record { sfits = omega arith }
 
-pub sign : (z : ℤ) → SFits w32 z → nat_abs z < 100000000 → lt_z (to_z w32 (of_z w32 z)) (pos 0) ≡ negative z
-sign z f _ = ap (λ (y : ℤ). lt_z y (pos 0)) (to_z-of_z w32 z f) ∙ by z
+pub sign : (z : ℤ) → SFits w32 z → nat_abs z < 100000000 → int_lt (to_z w32 (of_z w32 z)) (pos 0) ≡ negative z
+sign z f _ = ap (λ (y : ℤ). int_lt y (pos 0)) (to_z-of_z f) ∙ by z
   where
-    by : (y : ℤ) → lt_z y (pos 0) ≡ negative y
+    by : (y : ℤ) → int_lt y (pos 0) ≡ negative y
     by (pos n) = le-ltb n 0 zero-le
     by (negsuc n) = refl
 
 -- ---- a count below 10 ^ 8 and its opposite
 module _ (n : ℕ) (h : n < 100000000) where
   pub small-value : to_z w32 n ≡ pos n
-  small-value = to_z-of_z w32 (pos n) (record { sfits = omega arith })
+  small-value = to_z-of_z {w = w32} {z = pos n} (record { sfits = omega arith })
 
   opposite-is : pos 0 -ℤ to_z w32 n ≡ neg_ℤ (pos n)
   opposite-is = ap (λ (y : ℤ). pos 0 -ℤ y) small-value ∙ +ℤ_idl (neg_ℤ (pos n))
@@ -29,7 +28,7 @@ module _ (n : ℕ) (h : n < 100000000) where
   opposite-fits = subst (λ (y : ℤ). SFits w32 y) (sym opposite-is) (neg-fits (pos n) h)
 
   pub opposite-value : to_z w32 (of_z w32 (pos 0 -ℤ to_z w32 n)) ≡ neg_ℤ (pos n)
-  opposite-value = to_z-of_z w32 (pos 0 -ℤ to_z w32 n) opposite-fits ∙ opposite-is
+  opposite-value = to_z-of_z opposite-fits ∙ opposite-is
 
 -- ---- which numbers have a text
 at_most : (a n : ℕ) → is_le (cond (ltb n a) Less (cond (ltb a n) Greater Equal)) ≡ ltb n (suc a)

@@ -1,8 +1,8 @@
 -- The digit writer: the digits of n over eight spaces, from the last ones on, and then the minus, are the columns of n. Assumes nothing.
 use Rattle.std.proofs.Common.{ℤ, nat_abs, ℕ, zero, suc, ◌+◌, ◌-◌, ◌*◌, ◌/◌, ◌%◌, ◌^◌, max, ◌≤◌, ◌<◌, ◌≡◌, refl, ap, sym, ◌∙◌, subst, List, [], ◌∷◌, ◌++◌, length, take, drop, set, Bool, true, false, ◌&&◌, true≢false, ltb, arith, pow-suc, div-one, div-le_self, div-lt_iff_lt-mul, le-leb, lt-ltb, le-ltb, ltb-true, ltb-false, append-nil, append_assoc, drop_of_length-le, drop-drop}
-use Rattle.std.proofs.lemmas.List.Edits.{sets, sets-eq}
 use borrow.Rule.Slice.PartMut.{put_mid}
-use lib.Seq.{set_comm}
+use Rattle.std.proofs.lemmas.List.{set_comm}
+use Rattle.std.proofs.lemmas.List.Edits.{sets, sets-eq}
 use Rattle.text.specs.Fields.{shown, column, columns, text, negative}
 use Rattle.text.specs.Implementation.Writing.{spaces, pair_put, first_put, Digits, DigitsPut}
 use Rattle.text.proofs.Columns.{tens-order, ten-pos, below-eight, next_power, reaches, not-shown, digit_at, minus-at, blank-at, space-at, columns-length}

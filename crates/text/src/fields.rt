@@ -1,6 +1,7 @@
 // RULES 6.2 to 6.4: a whole number in eight columns, read and written.
 ghost use Rattle.std.specs.Prelude.{◌≡◌, ◌==◌, not, ◌+◌, ◌≤◌, ◌<◌, length, nat_abs, position, IfSome};
 ghost use Rattle.std.proofs.lemmas.List.Edits.{sets};
+ghost use Rattle.text.specs.Letters.{SPACE};
 ghost use Rattle.text.specs.Fields.{field, field_at, has_text, text, written_at};
 ghost use Rattle.text.specs.Implementation.Scanning.{value_from, unsigned as unsigned_of, plus as plus_of, minus as minus_of, signed as signed_of};
 
@@ -74,7 +75,7 @@ fn signed(f: &[u8], limit: u32) -> Field
 
 // The first column that is no space.
 fn begin(f: &[u8]) -> Option<usize>
-    ensures { result ≡ position (λ b. not (b == 32)) f.now }
+    ensures { result ≡ position (λ b. not (b == SPACE)) f.now }
 {
     f.iter().position(|&b| b != b' ')
 }

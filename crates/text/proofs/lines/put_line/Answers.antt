@@ -1,6 +1,5 @@
 use Rattle.text.proofs.LineTexts.{line-put}
-use lib.ListN.{length-set}
-use native.Mathlib.Omega.{arith}
+use Rattle.std.proofs.Common.{length-set, arith}
 use Rattle.text.proofs.lines.put_line.Goals as goal
 
 pub put_texts-requires : goal.put_texts-requires

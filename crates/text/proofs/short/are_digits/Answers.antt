@@ -1,4 +1,4 @@
-use mathlib.Core.Bool.{◌&&◌}
+use Rattle.std.proofs.Common.{◌&&◌}
 use Rattle.text.proofs.ShortReads.{both}
 use Rattle.text.proofs.short.are_digits.Goals as goal
 

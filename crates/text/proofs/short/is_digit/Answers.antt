@@ -1,5 +1,4 @@
-use borrow.Author.Tests.{leb-true}
-use lib.Dec.{leb}
+use Rattle.std.proofs.Common.{leb-true, leb}
 use Rattle.text.proofs.ShortReads.{both}
 use Rattle.text.proofs.short.is_digit.Goals as goal
 

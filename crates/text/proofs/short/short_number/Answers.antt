@@ -1,7 +1,4 @@
-use Rattle.std.proofs.Common.{arith}
-use mathlib.Core.Path.{refl}
-use lib.Dec.{eqb}
-use lib.ListN.{get_or}
+use Rattle.std.proofs.Common.{arith, refl, eqb, get_or}
 use Rattle.text.proofs.ShortReads.{both, first-digit, columns-read}
 use Rattle.text.proofs.short.short_number.Goals as goal
 

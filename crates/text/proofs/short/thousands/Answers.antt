@@ -1,5 +1,4 @@
-use native.Mathlib.Omega.{arith}
-use borrow.Author.Rules.{rules}
+use Rattle.std.proofs.Common.{arith, rules}
 use Rattle.text.proofs.short.thousands.Goals as goal
 
 pub overflow_sub-result : goal.overflow_sub-result

@@ -51,10 +51,6 @@ module _ (f : List ℕ) (l : 8 ≡ length f) where
       let r = value_from 0 (drop 4 f) in
       (omega (arith, a, b, c, d), begins f 4 _ (omega arith) k g.0 (ap Some (omega arith) ∙ three r _ b c d (turn 4 0 r (omega arith) a refl)))
 
-pub first-digit : (blank : Bool) (a b : ℕ) → Digit 49 (cond blank b a) → blank ≡ false → 48 ≤ a
-first-digit true a b h e = absurd (true≢false (sym (sym e)))
-first-digit false a b h e = omega (arith, h)
-
 pub short-read : (f : List ℕ) (limit : ℕ) (n : Option ℕ) → (n ≡ None → ⊥) → IfSome n (Reads f) → plus limit n ≡ scan limit f
 short-read f limit None h r = absurd (h refl)
 short-read f limit (Some n) h r = r.1 limit

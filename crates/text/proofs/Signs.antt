@@ -1,7 +1,6 @@
 -- Signed numbers of 32 bits: their magnitudes, and which of them have a text. Assumes nothing.
-use Rattle.std.proofs.Common.{int_lt, ℕ, zero, suc, ◌<◌, zero-le, ◌≡◌, refl, ap, sym, ◌∙◌, subst, Bool, true, false, cond, ◌&&◌, ltb, lit<, T, arith, ℤ, pos, negsuc, neg_ℤ, nat_abs, ◌-ℤ◌, Less, Equal, Greater, is_le, int_cmp, le-ltb, lt-ltb, ltb-true, ltb-false, w32, Fits, SFits, to_z, of_z, to_z-of_z}
+use Rattle.std.proofs.Common.{int_lt, ℕ, zero, suc, ◌<◌, zero-le, ◌≡◌, refl, ap, sym, ◌∙◌, subst, Bool, true, false, cond, ◌&&◌, ltb, lit<, arith, ℤ, pos, negsuc, neg_ℤ, nat_abs, ◌-ℤ◌, Less, Equal, Greater, is_le, int_cmp, le-ltb, lt-ltb, ltb-true, ltb-false, w32, SFits, to_z, of_z, to_z-of_z}
 use Rattle.std.proofs.Math.IntN.{+ℤ_idl}
-
 use Rattle.text.specs.Fields.{negative, has_text}
 
 neg-fits : (z : ℤ) → nat_abs z < 100000000 → SFits w32 (neg_ℤ z)

@@ -1,5 +1,5 @@
 use Rattle.std.proofs.Common.{arith}
-use Rattle.text.proofs.Writing.{no-digit-yet, at_most, room-for-one, room-for-two, pair-more, all_done}
+use Rattle.text.proofs.Writing.{no-digit-yet, room-for-one, room-for-two, pair-more, all_done}
 use Rattle.text.proofs.digits.put_digits.Goals as goal
 
 pub loop-rest-init : goal.loop-rest-init
@@ -7,12 +7,6 @@ loop-rest-init c = record { before = omega arith; digits = no-digit-yet _ _ _ _ 
 
 pub overflow_sub-i : goal.overflow_sub-i
 overflow_sub-i c = omega (arith, room-for-two c.loop-rest.invariant.digits c.requires (omega arith))
-
-pub overflow_mul-next : goal.overflow_mul-next
-overflow_mul-next c = omega (arith, at_most c.loop-rest.invariant.digits)
-
-pub put_pair-requires : goal.put_pair-requires
-put_pair-requires c = let room = room-for-two c.loop-rest.invariant.digits c.requires (omega arith) in (omega (arith, room), omega arith)
 
 pub loop-rest-preserved : goal.loop-rest-preserved
 loop-rest-preserved c =

@@ -1,6 +1,6 @@
-use Rattle.std.proofs.Common.{◌≡◌, ◌+◌, ◌*◌, ℕ, pos, ℤ, get_or, drop, true, ap, ◌∙◌, arith, to_z, of_z, w32, rules}
+use Rattle.std.proofs.Common.{◌≡◌, ◌+◌, ◌*◌, ℕ, pos, ℤ, get_or, drop, ap, ◌∙◌, arith, to_z, of_z, w32, rules}
 use Rattle.std.proofs.lemmas.List.Edits.{sets}
-use Rattle.text.specs.Fields.{text, has_text}
+use Rattle.text.specs.Fields.{text}
 use Rattle.text.specs.Lines.{texts}
 use Rattle.text.proofs.LineTexts.{have-this, have-rest, put-more, put-none}
 use Rattle.text.proofs.Signs.{has-text-small}

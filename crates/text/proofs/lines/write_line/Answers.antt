@@ -13,8 +13,8 @@ returns-then-m-lt2 c =
       | then-m-lt2-via-else-m-lt2+else-m-at+else-m-at-2+then-not-have_texts w ↦ no-texts _ _ _ zs (omega arith) (sym (all-have zs) ∙ sym w.have_texts.ensures ∙ w.if-not-have_texts.true)
     ]
 
-pub put_line-requires : goal.put_line-requires
-put_line-requires c = record { numbers_in_bounds = omega arith; numbers_value = sym (all-have c.args.numbers.now) ∙ sym c.have_texts.ensures ∙ c.if-not-have_texts.false }
+pub put_line-requires-clause-numbers_value : goal.put_line-requires-clause-numbers_value
+put_line-requires-clause-numbers_value c = sym (all-have c.args.numbers.now) ∙ sym c.have_texts.ensures ∙ c.if-not-have_texts.false
 
 pub returns : goal.returns
 returns c = line-there _ _ _ c.args.numbers.now _ (omega arith) (sym (all-have c.args.numbers.now) ∙ sym c.have_texts.ensures ∙ c.if-not-have_texts.false) c.put_line.ensures

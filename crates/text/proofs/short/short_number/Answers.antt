@@ -1,13 +1,6 @@
 use Rattle.std.proofs.Common.{arith, refl, eqb, get_or}
-use Rattle.text.proofs.ShortReads.{both, first-digit, columns-read}
+use Rattle.text.proofs.ShortReads.{both, columns-read}
 use Rattle.text.proofs.short.short_number.Goals as goal
-
-pub number-requires : goal.number-requires
-number-requires c =
-    let f = c.args.f.now in
-    let t = both c.are_digits.result c.four_spaces.result c.if-are_digits-four_spaces.true in
-    let d = c.are_digits.ensures t.0 in
-    (first-digit (eqb (get_or f 4 0) 32) (get_or f 4 0) (get_or f 5 0) (rw (← c.first_column.ensures) d.0), d.1.0, d.2.0, d.3.0)
 
 pub returns-then-are_digits-four_spaces : goal.returns-then-are_digits-four_spaces
 returns-then-are_digits-four_spaces c =

@@ -63,9 +63,6 @@ unfolding unsigned
 digits-first [] v g n e = absurd (omega arith)
 digits-first (b ∷ s) v g n e = e ∙ rw (ne_eqb b 48 n)
 
--- each return of `unsigned`
-pub ruleset unsigned_turns = (no-digits, zero-alone, zero-first, digits-first)
-
 -- ---- plus, minus
 pub no-number-plus : (limit : ℕ) (n : Option ℕ) → n ≡ None → Wrong ≡ plus limit n
 unfolding plus

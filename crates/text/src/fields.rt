@@ -9,7 +9,8 @@ use crate::Field;
 use crate::digits::put;
 use crate::short::short_number;
 
-// The number that the columns make, all of them digits.
+// The number that the columns make, all of them digits. They are at most eight, here and in the two that read what is left of a field: a type for that
+// would be made at each call and taken apart in the next.
 fn value(digits: &[u8]) -> Option<u32>
     requires { length digits.now ≤ 8 }
     ensures value { result ≡ value_from 0 digits.now }
@@ -126,6 +127,7 @@ pub fn magnitude(z: i32) -> u32
     z.unsigned_abs()
 }
 
+// Writes the text of a number that has one over all of the slice.
 fn put_text(columns: &mut [u8], z: i32)
     requires { (8 ≡ length columns.old) × (nat_abs z < 100000000) }
     ensures { columns.new ≡ text z }

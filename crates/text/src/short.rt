@@ -10,7 +10,7 @@ fn four_spaces(f: &[u8; 8]) -> bool
     u32::from_le_bytes([f[0], f[1], f[2], f[3]]) == u32::from_le_bytes(*b"    ")
 }
 
-// A digit, from `least` on.
+// A digit, from `least` on: `is_ascii_digit` begins at 0.
 fn is_digit(b: u8, least: u8) -> bool
     ensures { result ≡ true → Digit least b }
 {

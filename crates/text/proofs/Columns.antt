@@ -1,12 +1,7 @@
 -- Powers of ten, and what stands in one column of a number's text. Assumes nothing.
-use Prim.Native.Nat.{ℕ, zero, suc, ◌+◌, ◌/◌, ◌%◌, ◌^◌, max, ◌≤◌, ◌<◌, zero-le}
-use mathlib.Core.Path.{◌≡◌, refl, ap, sym, ◌∙◌}
-use mathlib.Core.Bool.{Bool, true, false, cond}
-use native.Mathlib.Omega.{arith}
-use native.Mathlib.Nat.{pow-suc, pow-le-pow_right, div-div-eq-div-mul, div-eq_of_lt}
-use borrow.Author.Tests.{le-leb, lt-leb, leb-true, leb-false}
-use lib.Dec.{leb, lit<}
-use lib.ListN.{length}
+use Rattle.std.proofs.Common.{ℕ, zero, suc, ◌+◌, ◌/◌, ◌%◌, ◌^◌, max, ◌≤◌, ◌<◌, zero-le, ◌≡◌, refl, ap, sym, ◌∙◌, Bool, true, false, cond, arith, pow-suc, le-leb, leb-true, leb-false, leb, lit<, length}
+use Rattle.std.proofs.Math.Nat.{pow-le-pow_right, div-div-eq-div-mul, div-eq_of_lt}
+use Rattle.std.proofs.lemmas.Bool.{lt-leb}
 use Rattle.text.specs.Fields.{shown, column, columns}
 
 -- ---- powers of ten

@@ -1,15 +1,8 @@
 -- A line's numbers, one after the other: a turn of each loop, and what each return answers. Assumes nothing.
-use Prim.Native.Nat.{ℕ, suc, ◌+◌, ◌*◌, ◌≤◌, ◌<◌}
-use mathlib.Core.Path.{◌≡◌, refl, ap, sym, ◌∙◌}
-use mathlib.Core.List.{List, [], ◌∷◌, ◌++◌}
-use mathlib.Core.Bool.{Bool, true, false, cond}
-use native.Mathlib.Omega.{arith}
-use native.Mathlib.Numerals.{add-one}
-use native.Mathlib.Nat.{add-zero}
-use borrow.Author.Tests.{le-leb, lt-leb}
-use lib.IntN.{ℤ, pos, nat_abs}
-use lib.ListN.{length, get_or, drop, set, drop_of_length-le, length-append}
-use lib.Seq.{sets, drop-cons}
+use Rattle.std.proofs.Common.{ℕ, suc, ◌+◌, ◌*◌, ◌≤◌, ◌<◌, ◌≡◌, refl, ap, sym, ◌∙◌, List, [], ◌∷◌, ◌++◌, length, get_or, drop, set, Bool, true, false, cond, ◌&&◌, ℤ, pos, nat_abs, arith, add-one, add-zero, le-leb, drop_of_length-le, drop-cons, length-append}
+use Rattle.std.proofs.lemmas.Bool.{lt-leb}
+use Rattle.std.proofs.lemmas.List.Edits.{sets}
+use Rattle.std.specs.List.{list_all}
 use Rattle.text.specs.Fields.{text, negative, has_text}
 use Rattle.text.specs.Lines.{texts, have_texts, line, line_at}
 use Rattle.text.proofs.Columns.{columns-length}
@@ -19,27 +12,18 @@ from : (zs : List ℤ) (i : ℕ) → i < length zs → drop i zs ≡ get_or zs i
 from zs i h = drop-cons zs i (pos 0) h ∙ rw add-one
 
 -- ---- have_texts
+pub all-have : (zs : List ℤ) → list_all has_text zs ≡ have_texts zs
+unfolding have_texts
+all-have [] = refl
+all-have (z ∷ zs) = by (has_text z) (all-have zs)
+  where
+    by : (b : Bool) → list_all has_text zs ≡ have_texts zs → (b && list_all has_text zs) ≡ cond b (have_texts zs) false
+    by true e = e
+    by false e = refl
+
 have-step : (zs : List ℤ) (i : ℕ) → i < length zs → have_texts (drop i zs) ≡ cond (has_text (get_or zs i (pos 0))) (have_texts (drop (i + 1) zs)) false
 unfolding have_texts
 have-step zs i h = rw (from zs i h)
-
-when : (a x r : Bool) → a ≡ true → cond a x false ≡ r → x ≡ r
-when a x r e h = rw e at h
-
-unless : (a x r : Bool) → a ≡ false → cond a x false ≡ r → false ≡ r
-unless a x r e h = rw e at h
-
-module _ (zs : List ℤ) (i : ℕ) (r : Bool) (inv : have_texts (drop i zs) ≡ r) where
-  module _ (h : i < length zs) (b : Bool) (eb : b ≡ has_text (get_or zs i (pos 0))) where
-    pub have-turn : b ≡ true → have_texts (drop (i + 1) zs) ≡ r
-    have-turn e = when _ _ r (sym eb ∙ e) (sym (have-step zs i h) ∙ inv)
-
-    pub have-stop : b ≡ false → false ≡ r
-    have-stop e = unless _ _ r (sym eb ∙ e) (sym (have-step zs i h) ∙ inv)
-
-  pub have-end : length zs ≤ i → true ≡ r
-  unfolding have_texts
-  have-end h = (rw (drop_of_length-le zs h) at inv)
 
 -- ---- put_texts
 pub texts-length : (zs : List ℤ) → length (texts zs) ≡ 8 * length zs

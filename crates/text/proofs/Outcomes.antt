@@ -1,12 +1,7 @@
 -- What the reader and the writer answer at each return, from what the calls before it answered. Assumes nothing.
-use Prim.Native.Nat.{ℕ, ◌+◌, ◌<◌, ◌≤◌}
-use mathlib.Core.Path.{◌≡◌, ap}
-use mathlib.Core.List.{List}
-use mathlib.Core.Bool.{true, false}
-use lib.IntN.{ℤ, nat_abs}
-use lib.ListN.{length, take, drop}
-use lib.Seq.{sets}
-use borrow.Author.Tests.{le-leb, lt-leb}
+use Rattle.std.proofs.Common.{ℕ, ◌+◌, ◌<◌, ◌≤◌, ◌≡◌, ap, List, true, false, ℤ, nat_abs, length, take, drop, le-leb}
+use Rattle.std.proofs.lemmas.List.Edits.{sets}
+use Rattle.std.proofs.lemmas.Bool.{lt-leb}
 use Rattle.text.specs.Fields.{columns, field, field_at, negative, has_text, written_at}
 use Rattle.text.specs.declared.Field.{Field}
 use Rattle.text.specs.declared.Field.TheVariants.{Wrong}

@@ -1,15 +1,6 @@
 -- What is read is what was written: a field that is read as a number is that number's text, and a number's text is read as that number.
-use Prim.Native.Nat.{ℕ, zero, suc, ◌+◌, ◌-◌, ◌*◌, ◌/◌, ◌%◌, ◌^◌, max, ◌≤◌, ◌<◌}
-use mathlib.Core.Path.{◌≡◌, refl, ap, sym, ◌∙◌}
-use mathlib.Core.List.{List, [], ◌∷◌}
-use mathlib.Core.Bool.{Bool, true, false, cond}
-use native.Mathlib.Omega.{arith}
-use native.Mathlib.Nat.{pow-suc, div-eq_of_lt, div-one, div-le_self}
-use borrow.Author.Tests.{lt-ltb, le-ltb, le-leb, eq-eqb, ne_eqb, eqb-true, leb-true, leb-false, ltb-true, ltb-false}
-use lib.Dec.{leb, ltb, eqb}
-use lib.ListN.{length, take, drop}
-use lib.IntN.{ℤ, pos, negsuc, neg_ℤ, nat_abs}
-use mathlib.Core.Logic.{◌⊎◌, inl, inr}
+use Rattle.std.proofs.Common.{ℕ, zero, suc, ◌+◌, ◌-◌, ◌*◌, ◌/◌, ◌%◌, ◌^◌, max, ◌≤◌, ◌<◌, ◌≡◌, refl, ap, sym, ◌∙◌, List, [], ◌∷◌, Bool, true, false, cond, arith, pow-suc, div-one, div-le_self, lt-ltb, le-ltb, le-leb, eq-eqb, ne_eqb, eqb-true, leb-true, leb-false, ltb-true, ltb-false, leb, ltb, eqb, length, take, drop, ℤ, pos, negsuc, neg_ℤ, nat_abs, ◌⊎◌, inl, inr}
+use Rattle.std.proofs.Math.Nat.{div-eq_of_lt}
 use Rattle.text.specs.Fields.{shown, column, columns, text, has_text, grow, digits_from, same, blank, number_of, field, field_at}
 use Rattle.text.specs.declared.Field.TheVariants.{Blank, Number, Wrong}
 use Rattle.text.proofs.Columns.{tens-order, next_power, not-shown, digit_at, minus-at, blank-at, no-digit-at}

@@ -1,16 +1,8 @@
 -- What is read as a number, from the left in one go, are that number's columns. Assumes nothing.
-use Prim.Native.Nat.{ℕ, zero, suc, ◌+◌, ◌-◌, ◌*◌, ◌/◌, ◌^◌, max, ◌≤◌, ◌<◌}
-use mathlib.Core.Path.{◌≡◌, refl, sym, ◌∙◌}
-use mathlib.Core.List.{List, [], ◌∷◌}
-use mathlib.Core.Bool.{Bool, true, false, cond, true≢false}
-use native.Mathlib.Omega.{arith}
-use native.Mathlib.Nat.{pow-suc, div-one, div-lt_iff_lt-mul}
-use borrow.Author.Tests.{le-leb, lt-leb, eq-eqb, eqb-true, leb-true, ltb-false}
-use lib.Dec.{leb, ltb, eqb}
-use lib.ListN.{length}
-use lib.IntN.{ℤ, pos, negsuc, neg_ℤ}
+use Rattle.std.proofs.Common.{ℕ, zero, suc, ◌+◌, ◌-◌, ◌*◌, ◌/◌, ◌^◌, max, ◌≤◌, ◌<◌, ◌≡◌, refl, sym, ◌∙◌, List, [], ◌∷◌, length, Bool, true, false, cond, true≢false, Option, Some, None, ℤ, pos, negsuc, neg_ℤ, leb, ltb, eqb, arith, pow-suc, div-one, div-lt_iff_lt-mul, le-leb, eq-eqb, eqb-true, leb-true, ltb-false}
+use Rattle.std.proofs.lemmas.Bool.{lt-leb}
 use Rattle.text.specs.Fields.{shown, column, columns}
-use Rattle.text.specs.Implementation.Scanning.{none, value_from, zero_only, unsigned, fits, plus, minus, signed, scan}
+use Rattle.text.specs.Implementation.Scanning.{value_from, zero_only, unsigned, plus, minus, signed, scan}
 use Rattle.text.specs.declared.Field.TheVariants.{Number, Wrong}
 use Rattle.text.proofs.Columns.{ten-pos, next_power, reaches, not-shown, digit_at, minus-at}
 
@@ -28,17 +20,18 @@ module _ (neg : Bool) where
       let c : column neg v (length s) ≡ b = digit_at neg v (length s) (omega (arith, r)) ∙ omega (arith, q) in
       record { quotient = next_power v (length s) ∙ omega (arith, q); columns-are = rw (c, i.columns-are) }
 
-  value-sound : (s : List ℕ) (acc : ℕ) → 1 ≤ acc → (value_from acc s ≡ none → ⊥) → Sound acc (value_from acc s) s
+  value-sound : (s : List ℕ) (acc v : ℕ) → 1 ≤ acc → value_from acc s ≡ Some v → Sound acc v s
   unfolding value_from columns
-  value-sound [] acc p h = record { quotient = div-one acc; columns-are = refl }
-  value-sound (b ∷ s) acc p h = go (ltb b 48) (ltb 57 b) refl refl h (λ g. value-sound s (acc * 10 + (b - 48)) (omega arith) g)
+  value-sound [] acc v p h =
+      let e : v ≡ acc = cc in
+      rw e record { quotient = div-one acc; columns-are = refl }
+  value-sound (b ∷ s) acc v p h = go (ltb b 48) (ltb 57 b) refl refl h (λ g. value-sound s (acc * 10 + (b - 48)) v (omega arith) g)
     where
-      go : (x y : Bool) → ltb b 48 ≡ x → ltb 57 b ≡ y → (cond x none (cond y none (value_from (acc * 10 + (b - 48)) s)) ≡ none → ⊥)
-          → ((value_from (acc * 10 + (b - 48)) s ≡ none → ⊥) → Sound (acc * 10 + (b - 48)) (value_from (acc * 10 + (b - 48)) s) s)
-          → Sound acc (cond x none (cond y none (value_from (acc * 10 + (b - 48)) s))) (b ∷ s)
-      go true y e f h i = absurd (h refl)
-      go false true e f h i = absurd (h refl)
-      go false false e f h i = one-digit acc b _ s (ltb-false b 48 e) (ltb-false 57 b f) (omega arith) (i h)
+      go : (x y : Bool) → ltb b 48 ≡ x → ltb 57 b ≡ y → cond x None (cond y None (value_from (acc * 10 + (b - 48)) s)) ≡ Some v
+          → (value_from (acc * 10 + (b - 48)) s ≡ Some v → Sound (acc * 10 + (b - 48)) v s) → Sound acc v (b ∷ s)
+      go true y e f h i = absurd cc
+      go false true e f h i = absurd cc
+      go false false e f h i = one-digit acc b v s (ltb-false b 48 e) (ltb-false 57 b f) (omega arith) (i h)
 
   -- with no zero before them
   record Whole (n k : ℕ) (s : List ℕ) : Type 0 where
@@ -46,38 +39,39 @@ module _ (neg : Bool) where
     pub short : n < 10 ^ k
     pub long : 10 ^ k ≤ 10 * max n 1
 
-  leading : (b : ℕ) (s : List ℕ) → (b ≡ 48 → ⊥) → (value_from 0 (b ∷ s) ≡ none → ⊥) → Whole (value_from 0 (b ∷ s)) (suc (length s)) (b ∷ s)
+  leading : (b : ℕ) (s : List ℕ) (v : ℕ) → (b ≡ 48 → ⊥) → value_from 0 (b ∷ s) ≡ Some v → Whole v (suc (length s)) (b ∷ s)
   unfolding value_from
-  leading b s nz h = go (ltb b 48) (ltb 57 b) refl refl h
+  leading b s v nz h = go (ltb b 48) (ltb 57 b) refl refl h
     where
-      go : (x y : Bool) → ltb b 48 ≡ x → ltb 57 b ≡ y → (cond x none (cond y none (value_from (0 * 10 + (b - 48)) s)) ≡ none → ⊥)
-          → Whole (cond x none (cond y none (value_from (0 * 10 + (b - 48)) s))) (suc (length s)) (b ∷ s)
-      go true y e f h = absurd (h refl)
-      go false true e f h = absurd (h refl)
+      go : (x y : Bool) → ltb b 48 ≡ x → ltb 57 b ≡ y → cond x None (cond y None (value_from (0 * 10 + (b - 48)) s)) ≡ Some v → Whole v (suc (length s)) (b ∷ s)
+      go true y e f h = absurd cc
+      go false true e f h = absurd cc
       go false false e f h =
           let l = ltb-false b 48 e in
           let m = ltb-false 57 b f in
           let o : 1 ≤ 0 * 10 + (b - 48) = omega (arith, l, nz) in
-          let v = value_from (0 * 10 + (b - 48)) s in
-          let i = value-sound s (0 * 10 + (b - 48)) o h in
+          let i = value-sound s (0 * 10 + (b - 48)) v o h in
           let j = one-digit 0 b v s l m o i in
           let q = i.quotient in
           let p = pow-suc 10 (length s) in
           let r : 10 ^ length s ≤ v = reaches v (10 ^ length s) (omega (arith, q)) in
           record { columns-are = j.columns-are; short = omega (arith, p, (div-lt_iff_lt-mul {k = 10 ^ length s} {x = v} {y = 10} (ten-pos (length s))).0 (omega (arith, q, m))); long = omega (arith, p, r) }
 
-  alone : (b : ℕ) (s : List ℕ) → (zero_only s ≡ none → ⊥) → b ≡ 48 → Whole (zero_only s) (suc (length s)) (b ∷ s)
+  alone : (b : ℕ) (s : List ℕ) (v : ℕ) → zero_only s ≡ Some v → b ≡ 48 → Whole v (suc (length s)) (b ∷ s)
   unfolding zero_only columns column
-  alone b [] h e = let p : 10 ^ 1 ≡ 10 = refl in record { columns-are = rw e; short = omega (arith, p); long = omega (arith, p) }
-  alone b (c ∷ s) h e = absurd (h refl)
+  alone b [] v h e =
+      let z : v ≡ 0 = cc in
+      let p : 10 ^ 1 ≡ 10 = refl in
+      rw z record { columns-are = rw e; short = omega (arith, p); long = omega (arith, p) }
+  alone b (c ∷ s) v h e = absurd cc
 
-  unsigned-sound : (b : ℕ) (s : List ℕ) → (unsigned (b ∷ s) ≡ none → ⊥) → Whole (unsigned (b ∷ s)) (suc (length s)) (b ∷ s)
+  unsigned-sound : (b : ℕ) (s : List ℕ) (v : ℕ) → unsigned (b ∷ s) ≡ Some v → Whole v (suc (length s)) (b ∷ s)
   unfolding unsigned
-  unsigned-sound b s h = go (eqb b 48) refl h
+  unsigned-sound b s v h = go (eqb b 48) refl h
     where
-      go : (x : Bool) → eqb b 48 ≡ x → (cond x (zero_only s) (value_from 0 (b ∷ s)) ≡ none → ⊥) → Whole (cond x (zero_only s) (value_from 0 (b ∷ s))) (suc (length s)) (b ∷ s)
-      go true e h = alone b s h (eqb-true b 48 e)
-      go false e h = leading b s (λ (z : b ≡ 48). absurd (true≢false (sym (sym e ∙ eq-eqb b 48 z)))) h
+      go : (x : Bool) → eqb b 48 ≡ x → cond x (zero_only s) (value_from 0 (b ∷ s)) ≡ Some v → Whole v (suc (length s)) (b ∷ s)
+      go true e h = alone b s v h (eqb-true b 48 e)
+      go false e h = leading b s v (λ (z : b ≡ 48). absurd (true≢false (sym (sym e ∙ eq-eqb b 48 z)))) h
 
 -- ---- what is read as a number is its columns
 pub data Read (limit : ℕ) : ℤ → ℕ → List ℕ → Type 0 where
@@ -98,31 +92,23 @@ one-space limit z (suc k) f (below-zero {n = n} c s h) =
     below-zero {k = suc (suc k)} d (omega (arith, pow-suc 10 (suc k), s)) h
 
 -- the answers of plus and minus
-pub fits-is : (limit n : ℕ) → fits limit n ≡ true → (n ≡ none → ⊥) × (n ≤ limit)
-unfolding fits
-fits-is limit n h = go (eqb n none) refl h
-  where
-    go : (x : Bool) → eqb n none ≡ x → cond x false (leb n limit) ≡ true → (n ≡ none → ⊥) × (n ≤ limit)
-    go true e h = absurd (true≢false (sym h))
-    go false e h = (λ (q : n ≡ none). absurd (true≢false (sym (sym e ∙ eq-eqb n none q))), leb-true n limit h)
-
-plus-is : (limit n : ℕ) (z : ℤ) → plus limit n ≡ Number z → (n ≡ none → ⊥) × (n ≤ limit) × (pos n ≡ z)
+plus-is : (limit n : ℕ) (z : ℤ) → plus limit (Some n) ≡ Number z → (n ≤ limit) × (pos n ≡ z)
 unfolding plus
-plus-is limit n z h = go (fits limit n) refl h
+plus-is limit n z h = go (leb n limit) refl h
   where
-    go : (x : Bool) → fits limit n ≡ x → cond x (Number (pos n)) Wrong ≡ Number z → (n ≡ none → ⊥) × (n ≤ limit) × (pos n ≡ z)
-    go true e h = let f = fits-is limit n e in (f.0, f.1, cc)
-    go false e h = let o : ◌≡◌ {A = ℕ} 0 1 = cc in absurd (omega arith)
+    go : (x : Bool) → leb n limit ≡ x → cond x (Number (pos n)) Wrong ≡ Number z → (n ≤ limit) × (pos n ≡ z)
+    go true e h = (leb-true n limit e, cc)
+    go false e h = absurd cc
 
-minus_is : (limit n : ℕ) (z : ℤ) → minus limit n ≡ Number z → (n ≡ 0 → ⊥) × (n ≡ none → ⊥) × (n ≤ limit) × (neg_ℤ (pos n) ≡ z)
+minus_is : (limit n : ℕ) (z : ℤ) → minus limit (Some n) ≡ Number z → (n ≡ 0 → ⊥) × (n ≤ limit) × (neg_ℤ (pos n) ≡ z)
 unfolding minus
-minus_is limit n z h = go (eqb n 0) (fits limit n) refl refl h
+minus_is limit n z h = go (eqb n 0) (leb n limit) refl refl h
   where
-    go : (w x : Bool) → eqb n 0 ≡ w → fits limit n ≡ x → cond w Wrong (cond x (Number (neg_ℤ (pos n))) Wrong) ≡ Number z
-        → (n ≡ 0 → ⊥) × (n ≡ none → ⊥) × (n ≤ limit) × (neg_ℤ (pos n) ≡ z)
-    go true x d e h = let o : ◌≡◌ {A = ℕ} 0 1 = cc in absurd (omega arith)
-    go false false d e h = let o : ◌≡◌ {A = ℕ} 0 1 = cc in absurd (omega arith)
-    go false true d e h = let f = fits-is limit n e in (λ (q : n ≡ 0). absurd (true≢false (sym (sym d ∙ eq-eqb n 0 q))), f.0, f.1, cc)
+    go : (w x : Bool) → eqb n 0 ≡ w → leb n limit ≡ x → cond w Wrong (cond x (Number (neg_ℤ (pos n))) Wrong) ≡ Number z
+        → (n ≡ 0 → ⊥) × (n ≤ limit) × (neg_ℤ (pos n) ≡ z)
+    go true x d e h = absurd cc
+    go false false d e h = absurd cc
+    go false true d e h = (λ (q : n ≡ 0). absurd (true≢false (sym (sym d ∙ eq-eqb n 0 q))), leb-true n limit e, cc)
 
 minus-sound : (limit n : ℕ) (b : ℕ) (s : List ℕ) → b ≡ 45 → 1 ≤ length s → Whole true n (length s) s → (n ≡ 0 → ⊥) → n ≤ limit → Read limit (neg_ℤ (pos n)) (suc (length s)) (b ∷ s)
 unfolding columns
@@ -133,22 +119,29 @@ minus-sound limit (suc n) b s e k w nz l =
     let d : columns true (suc n) (suc (length s)) ≡ b ∷ s = rw (c, e, w.columns-are) in
     below-zero {k = suc (length s)} d (omega (arith, w.short, p)) l
 
-after_minus : (limit b : ℕ) (s : List ℕ) (z : ℤ) → b ≡ 45 → minus limit (unsigned s) ≡ Number z → Read limit z (suc (length s)) (b ∷ s)
-after_minus limit b [] z e h = let m = minus_is limit (unsigned []) z h in absurd (m.1 (unfold unsigned in refl))
-after_minus limit b (c ∷ s) z e h =
-    let m = minus_is limit (unsigned (c ∷ s)) z h in
-    rw (← m.3) (minus-sound limit (unsigned (c ∷ s)) b (c ∷ s) e (omega arith) (unsigned-sound true c s m.1) m.0 m.2)
+after_minus : (limit b : ℕ) (s : List ℕ) (z : ℤ) (r : Option ℕ) → b ≡ 45 → unsigned s ≡ r → minus limit r ≡ Number z → Read limit z (suc (length s)) (b ∷ s)
+unfolding unsigned minus
+after_minus limit b s z None e u h = absurd cc
+after_minus limit b [] z (Some n) e u h = absurd cc
+after_minus limit b (c ∷ s) z (Some n) e u h =
+    let m = minus_is limit n z h in
+    rw (← m.2) (minus-sound limit n b (c ∷ s) e (omega arith) (unsigned-sound true c s n u) m.0 m.1)
+
+no_minus-sound : (limit b : ℕ) (s : List ℕ) (z : ℤ) (r : Option ℕ) → unsigned (b ∷ s) ≡ r → plus limit r ≡ Number z → Read limit z (suc (length s)) (b ∷ s)
+unfolding plus
+no_minus-sound limit b s z None u h = absurd cc
+no_minus-sound limit b s z (Some n) u h =
+    let m = plus-is limit n z h in
+    let w = unsigned-sound false b s n u in
+    rw (← m.1) (plain w.columns-are w.short (omega arith) m.0)
 
 signed-sound : (limit b : ℕ) (s : List ℕ) (z : ℤ) → signed limit (b ∷ s) ≡ Number z → Read limit z (suc (length s)) (b ∷ s)
 unfolding signed
 signed-sound limit b s z h = go (eqb b 45) refl h
   where
     go : (x : Bool) → eqb b 45 ≡ x → cond x (minus limit (unsigned s)) (plus limit (unsigned (b ∷ s))) ≡ Number z → Read limit z (suc (length s)) (b ∷ s)
-    go true e h = after_minus limit b s z (eqb-true b 45 e) h
-    go false e h =
-        let m = plus-is limit (unsigned (b ∷ s)) z h in
-        let w = unsigned-sound false b s m.0 in
-        rw (← m.2) (plain w.columns-are w.short (omega arith) m.1)
+    go true e h = after_minus limit b s z (unsigned s) (eqb-true b 45 e) refl h
+    go false e h = no_minus-sound limit b s z (unsigned (b ∷ s)) refl h
 
 pub scan-sound : (limit : ℕ) (f : List ℕ) (z : ℤ) → scan limit f ≡ Number z → Read limit z (length f) f
 unfolding scan

@@ -1,16 +1,8 @@
 -- Reading from the left in one go is reading against the number's text. Assumes nothing.
-use Prim.Native.Nat.{ℕ, zero, suc, ◌+◌, ◌-◌, ◌*◌, ◌/◌, ◌%◌, ◌^◌, max, ◌≤◌, ◌<◌}
-use mathlib.Core.Path.{◌≡◌, refl, ap, sym, ◌∙◌}
-use mathlib.Core.List.{List, [], ◌∷◌}
-use mathlib.Core.Bool.{Bool, true, false, cond, true≢false}
-use native.Mathlib.Omega.{arith}
-use native.Mathlib.Nat.{pow-suc, div-one, div-eq_of_lt, div-lt_iff_lt-mul, le-div_iff_mul-le}
-use borrow.Author.Tests.{lt-ltb, le-ltb, le-leb, eq-eqb, ne_eqb, leb-true, leb-false, ltb-true}
-use lib.Dec.{ltb, eqb}
-use lib.ListN.{length}
-use lib.IntN.{ℤ, pos, negsuc, neg_ℤ, nat_abs}
+use Rattle.std.proofs.Common.{ℕ, zero, suc, ◌+◌, ◌-◌, ◌*◌, ◌/◌, ◌%◌, ◌^◌, max, ◌≤◌, ◌<◌, ◌≡◌, refl, ap, sym, ◌∙◌, List, [], ◌∷◌, length, Bool, true, false, cond, true≢false, Option, Some, None, ℤ, pos, negsuc, neg_ℤ, nat_abs, leb, ltb, eqb, arith, pow-suc, div-one, div-lt_iff_lt-mul, le-div_iff_mul-le, lt-ltb, le-ltb, le-leb, eq-eqb, ne_eqb, leb-true, leb-false, ltb-true}
+use Rattle.std.proofs.Math.Nat.{div-eq_of_lt}
 use Rattle.text.specs.Fields.{shown, column, columns, text, has_text, digits_from, same, blank, number_of, field}
-use Rattle.text.specs.Implementation.Scanning.{none, value_from, zero_only, unsigned, fits, plus, minus, signed, scan}
+use Rattle.text.specs.Implementation.Scanning.{value_from, zero_only, unsigned, plus, minus, signed, scan}
 use Rattle.text.specs.declared.Field.{Field}
 use Rattle.text.specs.declared.Field.TheVariants.{Blank, Number, Wrong}
 use Rattle.text.proofs.Columns.{ten-pos, ten-at-least, next_power, not-shown, digit_at, minus-at, blank-at, space-at}
@@ -18,16 +10,16 @@ use Rattle.text.proofs.RoundTrip.{read-is-text, read-has-text, text-is-read}
 use Rattle.text.proofs.ScanSound.{Read, plain, below-zero, scan-sound}
 
 -- ---- a number's columns are read as the number
-value_of : (neg : Bool) (n k : ℕ) → 10 ^ k ≤ 10 * max n 1 → value_from (n / 10 ^ k) (columns neg n k) ≡ n
+value_of : (neg : Bool) (n k : ℕ) → 10 ^ k ≤ 10 * max n 1 → value_from (n / 10 ^ k) (columns neg n k) ≡ Some n
 unfolding value_from columns
-value_of neg n zero h = div-one n
+value_of neg n zero h = ap Some (div-one n)
 value_of neg n (suc k) h =
     let p = pow-suc 10 k in
     let c = digit_at neg n k (omega (arith, h, p)) in
     let e : n / 10 ^ suc k * 10 + (48 + n / 10 ^ k % 10 - 48) ≡ n / 10 ^ k = omega (arith, next_power n k) in
     rw (c, le-ltb (48 + n / 10 ^ k % 10) 48 (omega arith), le-ltb 57 (48 + n / 10 ^ k % 10) (omega arith), e) (value_of neg n k (omega (arith, h, p)))
 
-unsigned_of_lem : (neg : Bool) (n k : ℕ) → 10 ^ k ≤ max n 1 → n < 10 ^ suc k → unsigned (columns neg n (suc k)) ≡ n
+unsigned_of_lem : (neg : Bool) (n k : ℕ) → 10 ^ k ≤ max n 1 → n < 10 ^ suc k → unsigned (columns neg n (suc k)) ≡ Some n
 unfolding unsigned columns
 unsigned_of_lem neg zero zero h s = unfold zero_only column in refl
 unsigned_of_lem neg zero (suc k) h s = absurd (omega (arith, h, ten-at-least (suc k) (omega arith)))
@@ -42,26 +34,22 @@ unsigned_of_lem neg (suc m) k h s =
     let v = value_of neg n (suc k) (omega (arith, h, p)) in
     rw (ne_eqb (column neg n k) 48 d) (ap (λ (a : ℕ). value_from a (column neg n k ∷ columns neg n k)) (sym z) ∙ v)
 
-fits-of : (limit n : ℕ) → n < 100000000 → n ≤ limit → fits limit n ≡ true
-unfolding fits
-fits-of limit n s l = rw (ne_eqb n none (λ (e : n ≡ none). omega (arith, e, s)), le-leb n limit l)
-
-plus-of : (limit n : ℕ) → n < 100000000 → n ≤ limit → plus limit n ≡ Number (pos n)
+plus-of : (limit n : ℕ) → n ≤ limit → plus limit (Some n) ≡ Number (pos n)
 unfolding plus
-plus-of limit n s l = rw (fits-of limit n s l)
+plus-of limit n l = rw (le-leb n limit l)
 
-minus-of : (limit n : ℕ) → 1 ≤ n → n < 100000000 → n ≤ limit → minus limit n ≡ Number (neg_ℤ (pos n))
+minus-of : (limit n : ℕ) → 1 ≤ n → n ≤ limit → minus limit (Some n) ≡ Number (neg_ℤ (pos n))
 unfolding minus
-minus-of limit n o s l = rw (ne_eqb n 0 (λ (e : n ≡ 0). omega (arith, e, o)), fits-of limit n s l)
+minus-of limit n o l = rw (ne_eqb n 0 (λ (e : n ≡ 0). omega (arith, e, o)), le-leb n limit l)
 
-module _ (limit n : ℕ) (s : n < 100000000) (l : n ≤ limit) where
+module _ (limit n : ℕ) (l : n ≤ limit) where
   first-digit : (k : ℕ) → 10 ^ k ≤ max n 1 → n < 10 ^ suc k → scan limit (columns false n (suc k)) ≡ Number (pos n)
   unfolding scan signed columns
   first-digit k h t =
       let c = digit_at false n k h in
       let a : column false n k ≡ 32 → ⊥ = λ e. omega (arith, c, e) in
       let b : column false n k ≡ 45 → ⊥ = λ e. omega (arith, c, e) in
-      rw (ne_eqb (column false n k) 32 a, ne_eqb (column false n k) 45 b) (ap (λ (x : ℕ). plus limit x) (unsigned_of_lem false n k h t) ∙ plus-of limit n s l)
+      rw (ne_eqb (column false n k) 32 a, ne_eqb (column false n k) 45 b) (ap (λ (r : Option ℕ). plus limit r) (unsigned_of_lem false n k h t) ∙ plus-of limit n l)
 
   more-space : (neg : Bool) (k : ℕ) → column neg n k ≡ 32 → scan limit (columns neg n (suc k)) ≡ scan limit (columns neg n k)
   unfolding scan columns
@@ -86,7 +74,7 @@ module _ (limit n : ℕ) (s : n < 100000000) (l : n ≤ limit) where
     unfolding scan signed columns
     minus-first k c h t =
         let a : column true n (suc k) ≡ 32 → ⊥ = λ e. omega (arith, c, e) in
-        rw (ne_eqb (column true n (suc k)) 32 a, eq-eqb (column true n (suc k)) 45 c) (ap (λ (x : ℕ). minus limit x) (unsigned_of_lem true n k h t) ∙ minus-of limit n o s l)
+        rw (ne_eqb (column true n (suc k)) 32 a, eq-eqb (column true n (suc k)) 45 c) (ap (λ (r : Option ℕ). minus limit r) (unsigned_of_lem true n k h t) ∙ minus-of limit n o l)
 
     minus-read : (k : ℕ) → 10 * n < 10 ^ k → scan limit (columns true n k) ≡ Number (neg_ℤ (pos n))
     minus-read zero t = let p : 10 ^ 0 ≡ 1 = refl in absurd (omega (arith, t, p, o))
@@ -111,18 +99,25 @@ either true x y p q = p
 either false x y p q = q
 
 no-wrong : NotBlank Wrong
-no-wrong e = let o : ◌≡◌ {A = ℕ} 0 1 = cc in omega arith
+no-wrong e = cc
 
 no_number : (z : ℤ) → NotBlank (Number z)
-no_number z e = let o : ◌≡◌ {A = ℕ} 0 1 = cc in omega arith
+no_number z e = cc
+
+plus-given : (limit : ℕ) (r : Option ℕ) → NotBlank (plus limit r)
+unfolding plus
+plus-given limit None = no-wrong
+plus-given limit (Some n) = either (leb n limit) _ _ (no_number _) no-wrong
+
+minus-given : (limit : ℕ) (r : Option ℕ) → NotBlank (minus limit r)
+unfolding minus
+minus-given limit None = no-wrong
+minus-given limit (Some n) = either (eqb n 0) _ _ no-wrong (either (leb n limit) _ _ (no_number _) no-wrong)
 
 no-blank : (limit : ℕ) (f : List ℕ) → NotBlank (signed limit f)
-unfolding signed plus minus
+unfolding signed
 no-blank limit [] = no-wrong
-no-blank limit (b ∷ s) =
-    either (eqb b 45) _ _
-    (either (eqb (unsigned s) 0) _ _ no-wrong (either (fits limit (unsigned s)) _ _ (no_number _) no-wrong))
-    (either (fits limit (unsigned (b ∷ s))) _ _ (no_number _) no-wrong)
+no-blank limit (b ∷ s) = either (eqb b 45) _ _ (minus-given limit (unsigned s)) (plus-given limit (unsigned (b ∷ s)))
 
 scan-blank : (limit : ℕ) (f : List ℕ) → scan limit f ≡ Blank → blank f ≡ true
 unfolding scan blank
@@ -153,8 +148,8 @@ read-field limit z f (below-zero {n = n} c s l) = rw (← c) (text-is-read limit
 
 text-scanned : (limit : ℕ) (z : ℤ) → has_text z ≡ true → nat_abs z ≤ limit → scan limit (text z) ≡ Number z
 unfolding has_text
-text-scanned limit (pos n) t l = let h = ltb-true n 100000000 t in plain-read limit n h l 8 (omega arith) (omega (arith, h, eight-digits))
-text-scanned limit (negsuc n) t l = let h = ltb-true n 9999999 t in minus-read limit (suc n) (omega (arith, h)) l (omega arith) 8 (omega (arith, h, eight-digits))
+text-scanned limit (pos n) t l = let h = ltb-true n 100000000 t in plain-read limit n l 8 (omega arith) (omega (arith, h, eight-digits))
+text-scanned limit (negsuc n) t l = let h = ltb-true n 9999999 t in minus-read limit (suc n) l (omega arith) 8 (omega (arith, h, eight-digits))
 
 field-blank : (limit : ℕ) (f : List ℕ) → blank f ≡ true → field limit f ≡ Blank
 unfolding field

@@ -1,15 +1,9 @@
 -- The digit writer: the digits of n over eight spaces, from the last ones on, and then the minus, are the columns of n. Assumes nothing.
-use Prim.Native.Nat.{ℕ, zero, suc, ◌+◌, ◌-◌, ◌*◌, ◌/◌, ◌%◌, ◌^◌, max, ◌≤◌, ◌<◌}
-use mathlib.Core.Path.{◌≡◌, refl, ap, sym, ◌∙◌, subst}
-use mathlib.Core.List.{List, [], ◌∷◌, ◌++◌}
-use mathlib.Core.Bool.{Bool, true, false, ◌&&◌, true≢false}
-use native.Mathlib.Omega.{arith}
-use native.Mathlib.Nat.{pow-suc, div-one, div-le_self, div-lt_iff_lt-mul}
-use borrow.Author.Tests.{le-leb, lt-ltb, le-ltb, ltb-true, ltb-false}
-use lib.Dec.{ltb}
-use lib.ListN.{length, take, set}
-use lib.Seq.{sets, set-set, set_comm}
-use Rattle.text.specs.Fields.{shown, column, columns}
+use Rattle.std.proofs.Common.{ℤ, nat_abs, ℕ, zero, suc, ◌+◌, ◌-◌, ◌*◌, ◌/◌, ◌%◌, ◌^◌, max, ◌≤◌, ◌<◌, ◌≡◌, refl, ap, sym, ◌∙◌, subst, List, [], ◌∷◌, ◌++◌, length, take, drop, set, Bool, true, false, ◌&&◌, true≢false, ltb, arith, pow-suc, div-one, div-le_self, div-lt_iff_lt-mul, le-leb, lt-ltb, le-ltb, ltb-true, ltb-false, append-nil, append_assoc, drop_of_length-le, drop-drop}
+use borrow.Rule.Slice.PartMut.{put_mid}
+use Rattle.std.proofs.lemmas.List.{set_comm}
+use Rattle.std.proofs.lemmas.List.Edits.{sets, sets-eq}
+use Rattle.text.specs.Fields.{shown, column, columns, text, negative}
 use Rattle.text.specs.Implementation.Writing.{spaces, pair_put, first_put, Digits, DigitsPut}
 use Rattle.text.proofs.Columns.{tens-order, ten-pos, below-eight, next_power, reaches, not-shown, digit_at, minus-at, blank-at, space-at, columns-length}
 
@@ -18,23 +12,6 @@ use Rattle.text.proofs.Columns.{tens-order, ten-pos, below-eight, next_power, re
 set_first : (xs l : List ℕ) (i j v : ℕ) → i < j → set (sets l j xs) i v ≡ sets (set l i v) j xs
 set_first [] l i j v h = refl
 set_first (a ∷ xs) l i j v h = set_first xs (set l j a) i (suc j) v (omega arith) ∙ ap (λ (m : List ℕ). sets m (suc j) xs) (set_comm l j i a v (λ e. omega (arith, e)))
-
--- as many again from the same place
-sets-again : (xs ys l : List ℕ) (i : ℕ) → length ys ≡ length xs → sets (sets l i xs) i ys ≡ sets l i ys
-sets-again [] [] l i h = refl
-sets-again [] (y ∷ ys) l i h = absurd (omega arith)
-sets-again (x ∷ xs) [] l i h = absurd (omega arith)
-sets-again (x ∷ xs) (y ∷ ys) l i h =
-    ap (λ (m : List ℕ). sets m (suc i) ys) (set_first xs (set l i x) i (suc i) y (omega arith) ∙ ap (λ (m : List ℕ). sets m (suc i) xs) (set-set l i x y))
-    ∙ sets-again xs ys (set l i y) (suc i) (omega arith)
-
--- over the last of them
-sets_over : (xs ys l : List ℕ) (i m : ℕ) → m + length ys ≡ length xs → sets (sets l i xs) (i + m) ys ≡ sets l i (take m xs ++ ys)
-sets_over xs ys l i zero h = let e : i + 0 ≡ i = omega arith in rw e (sets-again xs ys l i (omega arith))
-sets_over [] ys l i (suc m) h = absurd (omega arith)
-sets_over (x ∷ xs) ys l i (suc m) h =
-    let e : i + suc m ≡ suc i + m = omega arith in
-    rw e (sets_over xs ys (set l i x) (suc i) m (omega arith))
 
 -- one column more, left of those that are there
 column-more : (neg : Bool) (n k i j v : ℕ) (out o : List ℕ) → i ≡ suc j → o ≡ sets out i (columns neg n k) → column neg n k ≡ v → set o j v ≡ sets out j (columns neg n (suc k))
@@ -157,34 +134,41 @@ module _ {n k : ℕ} (d : Digits n k) where
       space-at n (suc j) (hidden (suc j) (omega arith)) (rw p (hidden j (omega arith)))
 
 -- ---- put
+-- all columns are there, where those left of the last k are spaces
+put-over : (neg : Bool) (n k i : ℕ) (o : List ℕ) → i + k ≡ 8 → ((j : ℕ) → k ≤ j → j < 8 → column neg n j ≡ 32) → o ≡ sets (spaces 8) i (columns neg n k) → o ≡ columns neg n 8
+put-over neg n k i o e h w =
+    let l = columns-length neg n k in
+    let end : i + length (columns neg n k) ≡ 8 = omega arith in
+    let none : drop 8 (spaces 8) ≡ [] = drop_of_length-le (spaces 8) {i = 8} (omega (arith, spaces-length 8)) in
+    let left : take i (spaces (i + k)) ++ columns neg n k ≡ columns neg n (i + k) = over-spaces neg n i k (λ j a b. h j a (omega arith)) in
+    w ∙ sets-eq (columns neg n k) (spaces 8) i (omega (arith, spaces-length 8))
+    ∙ ap (λ (m : ℕ). take i (spaces 8) ++ columns neg n k ++ drop m (spaces 8)) end
+    ∙ ap (λ (l : List ℕ). take i (spaces 8) ++ columns neg n k ++ l) none
+    ∙ append-nil (take i (spaces 8) ++ columns neg n k) ∙ (rw e at left)
+
+module _ {n r : ℕ} {o : List ℕ} (p : DigitsPut n (spaces 8) 8 r o) where
+  -- no minus, or no room for one
+  pub digits-alone : (neg : Bool) → neg && ltb 0 r ≡ false → o ≡ columns neg n 8
+  digits-alone false h = put-over false n (8 - r) r o (omega arith) (λ j a b. plain-left p.digits j a) (p.written false)
+  digits-alone true h = let l : r ≤ 0 = ltb-false 0 r h in put-over true n (8 - r) r o (omega arith) (λ j a b. absurd (omega arith)) (p.written true)
+
+  pub minus-put : (neg : Bool) → neg && ltb 0 r ≡ true → set o (r - 1) 45 ≡ columns neg n 8
+  minus-put false t = absurd (true≢false (sym t))
+  minus-put true t =
+      let l : 0 < r = ltb-true 0 r t in
+      put-over true n (suc (8 - r)) (r - 1) _ (omega arith) (λ j a b. minus-left p.digits j a)
+      (column-more true n (8 - r) r (r - 1) 45 (spaces 8) o (omega arith) (p.written true) (minus-next p.digits))
+
 -- the minus has room left of the digits
-pub minus-room : (neg : Bool) (at r : ℕ) → neg && ltb at r ≡ true → at < r
-minus-room true at r t = ltb-true at r t
-minus-room false at r t = absurd (true≢false (sym t))
+pub minus-room : (neg : Bool) (r : ℕ) → neg && ltb 0 r ≡ true → 0 < r
+minus-room true r t = ltb-true 0 r t
+minus-room false r t = absurd (true≢false (sym t))
 
-module _ (out : List ℕ) (at : ℕ) {o : List ℕ} (s : o ≡ sets out at (spaces 8)) where
-  -- all columns are there, where those left of the last k are spaces
-  put-over : (neg : Bool) (n k i : ℕ) (o' : List ℕ) → at ≤ i → i + k ≡ at + 8 → ((j : ℕ) → k ≤ j → j < 8 → column neg n j ≡ 32) → o' ≡ sets o i (columns neg n k) → o' ≡ sets out at (columns neg n 8)
-  put-over neg n k i o' l e h w =
-      let m = i - at in
-      let f : i ≡ at + m = omega arith in
-      let g : 8 ≡ m + k = omega arith in
-      w ∙ rw (s, f, g)
-      (sets_over (spaces (m + k)) (columns neg n k) out at m (omega (arith, spaces-length (m + k), columns-length neg n k))
-      ∙ ap (λ (xs : List ℕ). sets out at xs) (over-spaces neg n m k (λ j a b. h j a (omega arith))))
-
-  module _ (r : ℕ) {n : ℕ} {o' : List ℕ} (p : DigitsPut n o (at + 8) r o') where
-    low : at ≤ r
-    low = omega arith
-
-    -- no minus, or no room for one
-    pub digits-alone : (neg : Bool) → neg && ltb at r ≡ false → o' ≡ sets out at (columns neg n 8)
-    digits-alone false h = put-over false n (at + 8 - r) r o' low (omega arith) (λ j a b. plain-left p.digits j a) (p.written false)
-    digits-alone true h = let l : r ≤ at = ltb-false at r h in put-over true n (at + 8 - r) r o' low (omega arith) (λ j a b. absurd (omega arith)) (p.written true)
-
-    pub minus-put : (neg : Bool) → neg && ltb at r ≡ true → set o' (r - 1) 45 ≡ sets out at (columns neg n 8)
-    minus-put false t = absurd (true≢false (sym t))
-    minus-put true t =
-        let l : at < r = ltb-true at r t in
-        put-over true n (suc (at + 8 - r)) (r - 1) _ (omega arith) (omega arith) (λ j a b. minus-left p.digits j a)
-        (column-more true n (at + 8 - r) r (r - 1) 45 o o' (omega arith) (p.written true) (minus-next p.digits))
+-- ---- put_signed
+-- eight columns of a slice that became a text
+pub text-put : (at k : ℕ) (out columns : List ℕ) (z : ℤ) → columns ≡ text z → k ≡ 8 → at + 8 ≤ length out → put_mid at k out columns ≡ sets out at (text z)
+text-put at k out columns z e l h =
+    let n : length (text z) ≡ 8 = columns-length (negative z) (nat_abs z) 8 in
+    let m : k ≡ length (text z) = l ∙ sym n in
+    ap (put_mid at k out) e ∙ ap (λ (xs : List ℕ). take at out ++ (text z ++ xs)) (drop-drop k at out ∙ ap (λ (j : ℕ). drop (at + j) out) m)
+    ∙ sym (append_assoc (take at out) (text z) _) ∙ sym (sets-eq (text z) out at (omega arith))

@@ -1,193 +1,158 @@
 // RULES 6.2 to 6.4: a whole number in eight columns, read and written.
-ghost use Rattle.std.specs.Prelude.{◌≡◌, ◌+◌, ◌≤◌, ◌<◌, length, drop, nat_abs};
+ghost use Rattle.std.specs.Prelude.{◌≡◌, ◌==◌, not, ◌+◌, ◌≤◌, ◌<◌, length, nat_abs, position, IfSome};
 ghost use Rattle.std.proofs.lemmas.List.Edits.{sets};
-ghost use Rattle.text.specs.Fields.{columns, field, field_at, has_text, negative, written_at};
-ghost use Rattle.text.specs.Implementation.Scanning.{none, value_from, unsigned as unsigned_of, fits as fits_in, plus as plus_of, minus as minus_of, signed as signed_of, Spaces};
+ghost use Rattle.text.specs.Letters.{SPACE};
+ghost use Rattle.text.specs.Fields.{field, field_at, has_text, text, written_at};
+ghost use Rattle.text.specs.Implementation.Scanning.{value_from, unsigned as unsigned_of, plus as plus_of, minus as minus_of, signed as signed_of};
 
 use crate::Field;
 use crate::digits::put;
 use crate::short::short_number;
 
-// No number: none of eight digits is so large.
-pub(crate) const NONE: u32 = 4294967295;
-
-// The number that the columns from `at` on make, all of them digits.
-fn value(f: &[u8], at: usize) -> u32
-    requires { (8 ≡ length f.now) × (at ≤ 8) }
-    ensures { (result ≡ value_from 0 (drop at f.now)) × ((result ≡ none → ⊥) → result < 100000000) }
+// The number that the columns make, all of them digits. They are at most eight, here and in the two that read what is left of a field: a type for that
+// would be made at each call and taken apart in the next.
+fn value(digits: &[u8]) -> Option<u32>
+    requires { length digits.now ≤ 8 }
+    ensures value { result ≡ value_from 0 digits.now }
+    ensures bound { IfSome result (λ n. n < 100000000) }
 {
-    let mut acc: u32 = 0;
-    let mut k = at;
-    while k < f.len() {
-        let b = f[k];
-        if b < b'0' {
-            return NONE;
+    let mut n: u32 = 0;
+    for &b in digits {
+        if !b.is_ascii_digit() {
+            return None;
         }
-        if b'9' < b {
-            return NONE;
-        }
-        acc = acc * 10 + (b - b'0') as u32;
-        k += 1;
+        n = n * 10 + (b - b'0') as u32;
     }
-    acc
+    Some(n)
 }
 
 // A zero stands alone: no digit comes after it.
-#[tactic(auto, using(crate::proofs::ScanTurns::unsigned_turns))]
-fn unsigned(f: &[u8], at: usize) -> u32
-    requires { (8 ≡ length f.now) × (at ≤ 8) }
-    ensures { (result ≡ unsigned_of (drop at f.now)) × ((result ≡ none → ⊥) → result < 100000000) }
+fn unsigned(digits: &[u8]) -> Option<u32>
+    requires { length digits.now ≤ 8 }
+    ensures value { result ≡ unsigned_of digits.now }
+    ensures bound { IfSome result (λ n. n < 100000000) }
 {
-    let n = f.len();
-    if n <= at {
-        return NONE;
+    match digits {
+        [] => None,
+        [b'0', more @ ..] => { if more.is_empty() { Some(0) } else { None } }
+        _ => value(digits),
     }
-    if f[at] == b'0' {
-        if at + 1 < n {
-            return NONE;
-        }
-        return 0;
-    }
-    value(f, at)
 }
 
-fn fits(n: u32, limit: u32) -> bool
-    ensures { result ≡ fits_in limit n }
-{
-    if n == NONE {
-        return false;
-    }
-    n <= limit
-}
-
-fn plus(n: u32, limit: u32) -> Field
-    requires { (n ≡ none → ⊥) → n < 100000000 }
+#[tactic(auto, using(crate::proofs::ScanTurns::sign_turns))]
+fn plus(n: Option<u32>, limit: u32) -> Field
+    requires { IfSome n (λ n. n < 100000000) }
     ensures { result ≡ plus_of limit n }
 {
-    if fits(n, limit) {
-        return Field::Number(n as i32);
+    match n {
+        Some(n) if n <= limit => Field::Number(n as i32),
+        _ => Field::Wrong,
     }
-    Field::Wrong
 }
 
-#[tactic(auto, using(crate::proofs::ScanTurns::minus_turns))]
-fn minus(n: u32, limit: u32) -> Field
-    requires { (n ≡ none → ⊥) → n < 100000000 }
+#[tactic(auto, using(crate::proofs::ScanTurns::sign_turns))]
+fn minus(n: Option<u32>, limit: u32) -> Field
+    requires { IfSome n (λ n. n < 100000000) }
     ensures { result ≡ minus_of limit n }
 {
-    if n == 0 {
-        return Field::Wrong;
+    match n {
+        Some(0) => Field::Wrong,
+        Some(n) if n <= limit => Field::Number(-(n as i32)),
+        _ => Field::Wrong,
     }
-    if fits(n, limit) {
-        return Field::Number(0 - n as i32);
-    }
-    Field::Wrong
 }
 
 // From the first column that is no space.
-fn signed(f: &[u8], at: usize, limit: u32) -> Field
-    requires { (8 ≡ length f.now) × (at < 8) }
-    ensures { result ≡ signed_of limit (drop at f.now) }
+fn signed(f: &[u8], limit: u32) -> Field
+    requires { length f.now ≤ 8 }
+    ensures { result ≡ signed_of limit f.now }
 {
-    if f[at] == b'-' {
-        return minus(unsigned(f, at + 1), limit);
+    match f {
+        [] => Field::Wrong,
+        [b'-', digits @ ..] => minus(unsigned(digits), limit),
+        _ => plus(unsigned(f), limit),
     }
-    plus(unsigned(f, at), limit)
 }
 
-// How many columns are spaces, from the first on.
-fn spaces(f: &[u8]) -> usize
-    ensures { Spaces f.now result }
+// The first column that is no space.
+fn begin(f: &[u8]) -> Option<usize>
+    ensures { result ≡ position (λ b. not (b == SPACE)) f.now }
 {
-    let mut i = 0;
-    while i < f.len() {
-        if f[i] != b' ' {
-            return i;
-        }
-        i += 1;
-    }
-    i
+    f.iter().position(|&b| b != b' ')
 }
 
 // Any field, column by column.
-fn read_long(f: &[u8], limit: u32) -> Field
-    requires { 8 ≡ length f.now }
+fn read_long(f: &[u8; 8], limit: u32) -> Field
     ensures { result ≡ field limit f.now }
 {
-    let i = spaces(f);
-    if i < f.len() {
-        return signed(f, i, limit);
+    match begin(f) {
+        Some(i) => signed(&f[i..], limit),
+        None => Field::Blank,
     }
-    Field::Blank
 }
 
-fn read_columns(f: &[u8], limit: u32) -> Field
-    requires { 8 ≡ length f.now }
+fn read_columns(f: &[u8; 8], limit: u32) -> Field
     ensures { result ≡ field limit f.now }
 {
-    let n = short_number(f);
-    if n != NONE {
-        return plus(n, limit);
+    match short_number(f) {
+        None => read_long(f, limit),
+        n => plus(n, limit),
     }
-    read_long(f, limit)
 }
 
 // What the eight columns from `at` hold; wrong where there are fewer.
 pub fn read_field(text: &[u8], at: usize, limit: u32) -> Field
     ensures { result ≡ field_at limit text.now at }
 {
-    let n = text.len();
-    if n < 8 {
+    let Some(rest) = text.get(at..) else {
         return Field::Wrong;
+    };
+    match rest.first_chunk::<8>() {
+        Some(f) => read_columns(f, limit),
+        None => Field::Wrong,
     }
-    if n - 8 < at {
-        return Field::Wrong;
-    }
-    read_columns(&text[at..at + 8], limit)
 }
 
 // Whether z has a text of eight columns.
 pub fn has_text(z: i32) -> bool
     ensures { result ≡ has_text z }
 {
-    if z < 0 - 9999999 {
-        return false;
-    }
-    z < 100000000
+    (-9_999_999..=99_999_999).contains(&z)
 }
 
 pub fn magnitude(z: i32) -> u32
     requires { nat_abs z < 100000000 }
     ensures { result ≡ nat_abs z }
 {
-    if z < 0 {
-        return (0 - z) as u32;
-    }
-    z as u32
+    z.unsigned_abs()
 }
 
-// Writes a number that has a text.
+// Writes the text of a number that has one over all of the slice.
+fn put_text(columns: &mut [u8], z: i32)
+    requires { (8 ≡ length columns.old) × (nat_abs z < 100000000) }
+    ensures { columns.new ≡ text z }
+{
+    let Some(columns) = columns.as_mut_array() else {
+        unreachable!()
+    };
+    put(columns, z < 0, magnitude(z));
+}
+
+// Writes a number that has a text in the eight columns from `at`.
 pub(crate) fn put_signed(out: &mut [u8], at: usize, z: i32)
     requires { (at + 8 ≤ length out.old) × (nat_abs z < 100000000) }
-    ensures { out.new ≡ sets out.old at (columns (negative z) (nat_abs z) 8) }
+    ensures { out.new ≡ sets out.old at (text z) }
 {
-    put(out, at, z < 0, magnitude(z));
+    put_text(&mut out[at..at + 8], z);
 }
 
 // Writes z in the eight columns from `at`, where it has a text and they are there; else nothing is written, and the answer is false.
 pub fn write_field(out: &mut [u8], at: usize, z: i32) -> bool
     ensures { (result, out.new) ≡ written_at out.old at z }
 {
-    let n = out.len();
-    if n < 8 {
+    if out.len() < 8 || out.len() - 8 < at || !has_text(z) {
         return false;
     }
-    if n - 8 < at {
-        return false;
-    }
-    if has_text(z) {
-        put_signed(out, at, z);
-        return true;
-    }
-    false
+    put_signed(out, at, z);
+    true
 }

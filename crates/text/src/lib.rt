@@ -7,7 +7,7 @@ pub mod fields;
 pub mod lines;
 mod short;
 
-// What eight columns hold.
+// What eight columns hold. None of the three is an error by itself: which fields may be blank, and what a wrong one means, is for the reader of the record to say (RULES 6.2).
 #[derive(Clone, Copy)]
 pub enum Field {
     Blank,

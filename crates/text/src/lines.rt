@@ -1,22 +1,16 @@
 // A line of the printed list: a letter, its numbers in the sheet's columns, one LF.
 ghost use Rattle.std.specs.Prelude.{◌≡◌, true, ◌+◌, ◌*◌, ◌≤◌, length};
 ghost use Rattle.std.proofs.lemmas.List.Edits.{sets};
+ghost use Rattle.std.specs.List.{list_all};
+ghost use Rattle.text.specs.Fields.{has_text};
 ghost use Rattle.text.specs.Lines.{texts, have_texts, line, line_at};
 
 use crate::fields::{has_text, put_signed};
 
 fn have_texts(numbers: &[i32]) -> bool
-    ensures { result ≡ have_texts numbers.now }
+    ensures { result ≡ list_all has_text numbers.now }
 {
-    let mut i = 0;
-    while i < numbers.len() {
-        if has_text(numbers[i]) {
-            i += 1;
-        } else {
-            return false;
-        }
-    }
-    true
+    numbers.iter().all(|&z| has_text(z))
 }
 
 // Writes the numbers' texts from `at`.
@@ -25,13 +19,8 @@ fn put_texts(out: &mut [u8], at: usize, numbers: &[i32])
     requires numbers_value { have_texts numbers.now ≡ true }
     ensures { out.new ≡ sets out.old at (texts numbers.now) }
 {
-    let mut i = 0;
-    let mut q = at;
-    while i < numbers.len() {
-        let z = numbers[i];
-        put_signed(out, q, z);
-        i += 1;
-        q += 8;
+    for (i, &z) in numbers.iter().enumerate() {
+        put_signed(out, at + 8 * i, z);
     }
 }
 
@@ -43,7 +32,7 @@ fn put_line(out: &mut [u8], at: usize, letter: u8, numbers: &[i32])
     let n = numbers.len();
     out[at] = letter;
     put_texts(out, at + 1, numbers);
-    out[at + 1 + 8 * n] = 10;
+    out[at + 1 + 8 * n] = b'\n';
 }
 
 // Writes a line from `at`, where it has room and each number a text; else nothing is written, and the answer is false.
@@ -51,18 +40,9 @@ pub fn write_line(out: &mut [u8], at: usize, letter: u8, numbers: &[i32]) -> boo
     ensures { (result, out.new) ≡ line_at out.old at letter numbers.now }
 {
     let m = out.len();
-    if m < 2 {
+    if m < 2 || m - 2 < at || (m - 2 - at) / 8 < numbers.len() || !have_texts(numbers) {
         return false;
     }
-    if m - 2 < at {
-        return false;
-    }
-    if (m - 2 - at) / 8 < numbers.len() {
-        return false;
-    }
-    if have_texts(numbers) {
-        put_line(out, at, letter, numbers);
-        return true;
-    }
-    false
+    put_line(out, at, letter, numbers);
+    true
 }

@@ -1,5 +1,5 @@
 -- How the code reads a number of three or four digits.
-use Rattle.std.specs.Prelude.{ℕ, ◌≤◌, ◌<◌, ◌≡◌, List}
+use Rattle.std.specs.Prelude.{ℕ, ◌≤◌, ◌<◌, ◌≡◌, List, Some}
 use Rattle.text.specs.Implementation.Scanning.{plus, scan}
 
 -- least is 48, or 49 where a number begins
@@ -8,4 +8,4 @@ Digit least b = (least ≤ b) × (b ≤ 57)
 
 -- the columns hold n
 abbrev pub Reads : List ℕ → ℕ → Type 0
-Reads f n = (n < 100000000) × ((limit : ℕ) → plus limit n ≡ scan limit f)
+Reads f n = (n < 100000000) × ((limit : ℕ) → plus limit (Some n) ≡ scan limit f)

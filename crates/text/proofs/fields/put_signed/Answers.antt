@@ -1,19 +1,7 @@
-use Rattle.text.proofs.Signs.{sign}
-use mathlib.Core.Path.{◌≡◌, ap, ◌∙◌}
-use lib.IntN.{nat_abs}
-use mir.ValLaws.{to_z-of_z}
-use mir.Syntax.{w32}
-use borrow.Author.Rules.{rules}
+use Rattle.std.proofs.Common.{ap, ◌∙◌, to_z-of_z, arith}
+use Rattle.text.specs.Fields.{text}
+use Rattle.text.proofs.Writing.{text-put}
 use Rattle.text.proofs.fields.put_signed.Goals as goal
 
-pub put-requires : goal.put-requires
-put-requires c =
-    let z = c.args.z in
-    let e : c.magnitude.result ≡ nat_abs z = c.magnitude.ensures ∙ ap nat_abs (to_z-of_z w32 z c.ranges.z) in
-    (search rules, rw e c.requires.1)
-
 pub returns : goal.returns
-returns c =
-    let z = c.args.z in
-    let e : c.magnitude.result ≡ nat_abs z = c.magnitude.ensures ∙ ap nat_abs (to_z-of_z w32 z c.ranges.z) in
-    c.put.ensures ∙ rw (e, sign z c.ranges.z c.requires.1)
+returns c = text-put _ _ c.args.out.now _ c.args.z (c.put_text.ensures ∙ ap text (to_z-of_z c.ranges.z)) (omega arith) (omega arith)

@@ -1,27 +1,29 @@
-use Rattle.text.proofs.ScanTurns.{few, seven, eight, value-end, too-low, too-high, value-turn}
-use Rattle.text.proofs.Columns.{ten-pos}
-use mathlib.Core.Path.{refl}
-use native.Mathlib.Omega.{arith}
-use borrow.Author.Rules.{rules}
+use Rattle.std.proofs.Common.{arith, rules}
+use Rattle.text.proofs.ScanTurns.{not-digit, few, seven, eight, value-end, value-turn}
 use Rattle.text.proofs.fields.value.Goals as goal
 
-pub loop-k-init : goal.loop-k-init
-loop-k-init c = (search rules, ten-pos _, refl)
+pub returns-then-not-is_ascii_digit-clause-value : goal.returns-then-not-is_ascii_digit-clause-value
+returns-then-not-is_ascii_digit-clause-value c =
+    not-digit c.args.digits.now c.loop-b.n c.loop-b.b-index _ c.loop-b.invariant.rest c.loop-b-test.true c.if-not-is_ascii_digit.ensures.cases
 
-pub returns-then-b-lt48 : goal.returns-then-b-lt48
-returns-then-b-lt48 c = (too-low c.args.f.now c.loop-k.acc c.loop-k.k _ c.loop-k.invariant.2 c.loop-k-test.true c.if-b-lt48.true, λ h. absurd (h refl))
+pub overflow_mul-n : goal.overflow_mul-n
+overflow_mul-n c =
+    let p = seven c.loop-b.b-index (omega arith) in search rules
 
-pub returns-then-b-gt57 : goal.returns-then-b-gt57
-returns-then-b-gt57 c = (too-high c.args.f.now c.loop-k.acc c.loop-k.k _ c.loop-k.invariant.2 c.loop-k-test.true c.if-b-lt48.false c.if-b-gt57.true, λ h. absurd (h refl))
+pub overflow_add-n : goal.overflow_add-n
+overflow_add-n c =
+    let p = seven c.loop-b.b-index (omega arith) in
+    let d = c.if-not-is_ascii_digit.ensures.cases in search rules
 
-pub overflow_mul-acc : goal.overflow_mul-acc
-overflow_mul-acc c = let p = seven c.loop-k.k (omega arith) in search rules
+pub loop-b-preserved : goal.loop-b-preserved
+loop-b-preserved c =
+    let d = c.if-not-is_ascii_digit.ensures.cases in record {
+      few = few c.loop-b.n _ c.loop-b.b-index c.loop-b.invariant.few (omega arith);
+      rest = value-turn c.args.digits.now c.loop-b.n c.loop-b.b-index _ c.loop-b.invariant.rest c.loop-b-test.true d.0 d.1;
+    }
 
-pub overflow_add-acc : goal.overflow_add-acc
-overflow_add-acc c = let p = seven c.loop-k.k (omega arith) in search rules
+pub returns-clause-value : goal.returns-clause-value
+returns-clause-value c = value-end c.args.digits.now c.loop-b.n c.loop-b.b-index _ c.loop-b.invariant.rest c.loop-b-test.false
 
-pub loop-k-preserved : goal.loop-k-preserved
-loop-k-preserved c = (search rules, few c.loop-k.acc _ c.loop-k.k c.loop-k.invariant.1 (omega arith), value-turn c.args.f.now c.loop-k.acc c.loop-k.k _ c.loop-k.invariant.2 c.loop-k-test.true c.if-b-lt48.false c.if-b-gt57.false)
-
-pub returns : goal.returns
-returns c = (value-end c.args.f.now c.loop-k.acc c.loop-k.k _ c.loop-k.invariant.2 c.loop-k-test.false, λ h. omega (arith, c.loop-k.invariant.1, eight c.loop-k.k c.loop-k.invariant.0))
+pub returns-clause-bound : goal.returns-clause-bound
+returns-clause-bound c = omega (arith, c.loop-b.invariant.few, eight c.loop-b.b-index (omega arith))

@@ -1,22 +1,10 @@
-use mathlib.Core.Path.{refl}
-use lib.Dec.{eqb}
-use lib.ListN.{get_or}
-use Rattle.text.proofs.ShortReads.{both, first-digit, columns-read}
+use Rattle.std.proofs.Common.{arith, refl, eqb, get_or}
+use Rattle.text.proofs.ShortReads.{both, columns-read}
 use Rattle.text.proofs.short.short_number.Goals as goal
 
-pub number-requires : goal.number-requires
-number-requires c =
-    let f = c.args.f.now in
-    let t = both c.are_digits.result c.four_spaces.result c.if-are_digits-four_spaces.true in
-    let d = c.are_digits.ensures t.0 in
-    (first-digit (eqb (get_or f 4 0) 32) (get_or f 4 0) (get_or f 5 0) (rw (← c.first_column.ensures) d.0), d.1.0, d.2.0, d.3.0)
-
 pub returns-then-are_digits-four_spaces : goal.returns-then-are_digits-four_spaces
-returns-then-are_digits-four_spaces c h =
+returns-then-are_digits-four_spaces c =
     let t = both c.are_digits.result c.four_spaces.result c.if-are_digits-four_spaces.true in
     let d = c.are_digits.ensures t.0 in
     rw c.number.ensures
-    (columns-read c.args.f.now c.requires (eqb (get_or c.args.f.now 4 0) 32) refl (c.four_spaces.ensures t.1) (rw (← c.first_column.ensures) d.0) d.1 d.2 d.3)
-
-pub returns : goal.returns
-returns c = λ h. absurd (h refl)
+    (columns-read c.args.f.now (omega arith) (eqb (get_or c.args.f.now 4 0) 32) refl (c.four_spaces.ensures t.1) (rw (← c.first_column.ensures) d.0) d.1 d.2 d.3)

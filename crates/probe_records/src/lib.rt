@@ -1,8 +1,9 @@
 // The entry points of crates text and records: tests only.
 #![tactic(auto)]
 
-use probe_values::layouts::{count_of_flag, number_of_direction};
-use probe_values::rects::number_of_align;
+use probe_values::layouts::put_layout;
+use probe_values::packing::put_at;
+use probe_values::rects::Numbers;
 use records::headings::{heading_fault, read_heading};
 use records::records::read_record;
 use records::sheets::check;
@@ -36,45 +37,21 @@ pub extern "C" fn line_write(out: &mut [u8], at: usize, letter: u8, numbers: &[i
 
 // Its layout's six fields, then max_rect's edges and the spacings.
 fn put_heading(lengths: &mut [f32; 10], counts: &mut [usize; 12], h: Heading) {
-    let l = h.layout;
-    let main_dir = l.main_dir;
-    let main_align = l.main_align;
-    let cross_align = l.cross_align;
-    counts[0] = number_of_direction(main_dir) as usize;
-    counts[1] = count_of_flag(l.main_wrap);
-    counts[2] = number_of_align(main_align) as usize;
-    counts[3] = count_of_flag(l.main_justify);
-    counts[4] = number_of_align(cross_align) as usize;
-    counts[5] = count_of_flag(l.cross_justify);
-    lengths[0] = h.max_rect.left;
-    lengths[1] = h.max_rect.top;
-    lengths[2] = h.max_rect.right;
-    lengths[3] = h.max_rect.bottom;
-    lengths[4] = h.spacing.x;
-    lengths[5] = h.spacing.y;
+    put_layout(counts, h.layout);
+    put_at(lengths, 0, &h.max_rect.numbers());
+    put_at(lengths, 4, &h.spacing.numbers());
 }
 
 // Whether there is a grid, the minimum and the maximum cell, the columns, 0 for not named, and the start row; then how many records the heading
 // is, and where the next one begins.
 fn put_rest(lengths: &mut [f32; 10], counts: &mut [usize; 12], h: Heading) {
-    let g = h.options;
-    lengths[6] = g.min_cell_size.x;
-    lengths[7] = g.min_cell_size.y;
-    lengths[8] = g.max_cell_size.x;
-    lengths[9] = g.max_cell_size.y;
-    counts[6] = count_of_flag(h.has_grid);
-    counts[7] = g.num_columns;
-    counts[8] = g.start_row;
+    put_at(lengths, 6, &h.options.min_cell_size.numbers());
+    put_at(lengths, 8, &h.options.max_cell_size.numbers());
+    counts[6] = h.has_grid as usize;
+    counts[7] = h.options.num_columns;
+    counts[8] = h.options.start_row;
     counts[9] = h.records;
     counts[10] = h.next;
-}
-
-// 0 steps, 1 hundredths of a millimetre.
-fn number_of_unit(unit: SizeUnit) -> usize {
-    match unit {
-        SizeUnit::Steps => 0,
-        SizeUnit::Hundredths => 1,
-    }
 }
 
 fn unit_of(hundredths: bool) -> SizeUnit {
@@ -97,8 +74,7 @@ pub extern "C" fn heading_read(
         let h = read_heading(text);
         put_heading(lengths, counts, h);
         put_rest(lengths, counts, h);
-        let unit = h.unit;
-        counts[11] = number_of_unit(unit);
+        counts[11] = h.unit as usize;
     }
     fault
 }

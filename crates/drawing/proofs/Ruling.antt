@@ -53,6 +53,12 @@ module _ (letter size : ℕ) (s : List ℕ) (at : ℕ) where
       let g = rw e at inv in
       rw f (omega (arith, g))
 
+  pub lines-none : (most : ℕ) → 0 + lines_from (most - 0) letter size s (at + size * 0) ≡ lines_from most letter size s at
+  lines-none most =
+      let e : most - 0 ≡ most = omega arith in
+      let f : at + size * 0 ≡ at = omega arith in
+      rw (e, f) (omega arith)
+
   pub lines-stop : (left n r : ℕ) → n + lines_from left letter size s at ≡ r → is_line letter size s at ≡ false → n ≡ r
   unfolding lines_from
   lines-stop zero n r inv e = omega arith

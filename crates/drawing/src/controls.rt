@@ -1,18 +1,19 @@
 // The controls of a list, on the page: which two share an edge or a place, and where a label stands.
 ghost use Rattle.std.specs.Prelude.{◌≡◌, ◌+◌, ◌*◌, ◌≤◌, ◌<◌};
 ghost use Rattle.drawing.specs.Pages.{InBounds};
-ghost use Rattle.drawing.specs.Drawings.{middle as middle_of, across as across_of, down as down_of, covers as covers_by, distance as distance_of, near as near_by, touching as touching_at, same_fields, shares as shares_it, seen as seen_by, flat as flat_at, label_across, label_down};
+ghost use Rattle.drawing.specs.Drawings.{middle as middle_of, across as across_of, down as down_of, covers as covers_by, near as near_by, touching as touching_at, same_fields, shares as shares_it, seen as seen_by, flat as flat_at, label_across, label_down};
 
-use crate::lists::{beyond, place_of, span};
+use crate::lists::{place_of, span};
 use crate::pages::{px, times};
 use crate::{Page, Shared};
 
+#[tactic(auto, unfolding(crate::specs::Drawings::middle))]
 fn middle(list: &[u8], line: usize, i: usize, j: usize, from: usize) -> usize
     requires { (line ≤ 1000000) × (i ≤ 16) × (j ≤ 16) }
     ensures { (result ≡ middle_of list.now line i j from) × (result ≤ 20000000) }
 {
-    let low = beyond(from, place_of(list, line, i));
-    let high = beyond(from, place_of(list, line, j));
+    let low = place_of(list, line, i).saturating_sub(from);
+    let high = place_of(list, line, j).saturating_sub(from);
     (low + high) / 2
 }
 
@@ -46,22 +47,14 @@ pub fn covers(page: Page, list: &[u8], k: usize, width: usize, height: usize) ->
     (width <= w) & (height <= h)
 }
 
-fn distance(a: usize, b: usize) -> usize
-    ensures { result ≡ distance_of a b }
-{
-    if a < b { b - a } else { a - b }
-}
-
+#[tactic(auto, unfolding(crate::specs::Drawings::near))]
 fn near(page: Page, list: &[u8], j: usize, k: usize, width: usize, height: usize) -> bool
     requires in_bounds { InBounds page }
     requires j_bound { (j ≤ 512) × (k ≤ 512) }
     ensures { result ≡ near_by page list.now j k width height }
 {
-    let x = distance(
-        px(page, across(page, list, j)),
-        px(page, across(page, list, k)),
-    );
-    let y = distance(px(page, down(page, list, j)), px(page, down(page, list, k)));
+    let x = px(page, across(page, list, j)).abs_diff(px(page, across(page, list, k)));
+    let y = px(page, down(page, list, j)).abs_diff(px(page, down(page, list, k)));
     (x < width) & (y < height)
 }
 
@@ -104,9 +97,7 @@ pub fn seen(what: Shared, page: Page, list: &[u8], k: usize) -> bool
     requires k_bound { k ≤ 512 }
     ensures { result ≡ seen_by what page list.now k k }
 {
-    let mut j = k;
-    while 0 < j {
-        j -= 1;
+    for j in (0..k).rev() {
         if shares(what, page, list, j, k) {
             return true;
         }

@@ -9,14 +9,11 @@ use text::fields::{magnitude, read_field};
 
 const MAX_NUMBER: u32 = 9999999;
 
+#[tactic(auto, unfolding(crate::specs::Pieces::value_of))]
 fn value_of(f: Field) -> i32
     ensures { result ≡ value_of f }
 {
-    match f {
-        Field::Blank => 0,
-        Field::Number(z) => z,
-        Field::Wrong => 0,
-    }
+    if let Field::Number(z) = f { z } else { 0 }
 }
 
 // Field i, from 0, of the line that begins at a place.
@@ -46,33 +43,22 @@ pub fn place_of(list: &[u8], line: usize, i: usize) -> usize
     biased(field_of(list, line, i))
 }
 
-// How far b lies beyond a.
-pub fn beyond(a: usize, b: usize) -> usize
-    ensures { result ≡ b - a }
-{
-    if a < b { b - a } else { 0 }
-}
-
+#[tactic(auto, unfolding(crate::specs::Pages::span))]
 pub fn span(list: &[u8], line: usize, i: usize, j: usize) -> usize
     requires { (line ≤ 1000000) × (i ≤ 16) × (j ≤ 16) }
     ensures { (result ≡ span_of list.now line i j) × (result ≤ 20000000) }
 {
-    beyond(place_of(list, line, i), place_of(list, line, j))
+    place_of(list, line, j).saturating_sub(place_of(list, line, i))
 }
 
 // Whether a line of this letter and length begins there.
+#[tactic(auto, unfolding(crate::specs::Pages::is_line))]
 pub fn is_line(list: &[u8], at: usize, letter: u8, size: usize) -> bool
     requires { 0 < size }
     ensures { result ≡ is_line letter size list.now at }
 {
-    let n = list.len();
-    if n < size {
-        return false;
-    }
-    if n - size < at {
-        return false;
-    }
-    list[at] == letter
+    list.get(at..)
+        .is_some_and(|line| size <= line.len() && line[0] == letter)
 }
 
 // How many such lines stand there one after the other, so many at the most.
@@ -80,15 +66,10 @@ pub fn count_lines(list: &[u8], from: usize, letter: u8, size: usize, most: usiz
     requires { 0 < size }
     ensures { (result ≡ lines_from most letter size list.now from) × (result ≤ most) }
 {
-    let mut at = from;
-    let mut n: usize = 0;
-    while n < most {
-        if is_line(list, at, letter, size) {
-            at += size;
-            n += 1;
-        } else {
+    for n in 0..most {
+        if !is_line(list, from + size * n, letter, size) {
             return n;
         }
     }
-    n
+    most
 }

@@ -5,18 +5,6 @@ ghost use Rattle.drawing.specs.Pages.{bands_from, size_of, scaled as scaled_by, 
 use crate::Page;
 use crate::lists::{count_lines, span};
 
-pub fn greater(a: usize, b: usize) -> usize
-    ensures { result ≡ max a b }
-{
-    if a < b { b } else { a }
-}
-
-pub fn lesser(a: usize, b: usize) -> usize
-    ensures { result ≡ min a b }
-{
-    if a < b { a } else { b }
-}
-
 pub fn times(i: usize, n: usize) -> usize
     requires { (i ≤ 20000000) × (n ≤ 32000000040) }
     ensures { (result ≡ i * n) × (result ≤ 640000000800000000) }
@@ -29,12 +17,10 @@ fn bands_from(n: usize, long: usize, short: usize) -> usize
     requires { (n ≤ 22) × (short ≤ 20000000) }
     ensures { (result ≡ bands_from n long short) × (0 < result) × (result ≤ 22) }
 {
-    let mut k = n;
-    while 0 < k {
+    for k in (1..=n).rev() {
         if times(k * k, short) <= long {
             return k;
         }
-        k -= 1;
     }
     1
 }
@@ -58,6 +44,7 @@ pub fn scaled(large: bool, unit: usize, d: usize) -> usize
     d * 800 / unit
 }
 
+#[tactic(auto, unfolding(crate::specs::Pages::cut))]
 fn cut(
     widgets: usize,
     columns: usize,
@@ -69,10 +56,10 @@ fn cut(
     requires { (width ≤ 20000000) × (height ≤ 20000000) × (0 < bands) }
     ensures { result ≡ cut_into widgets columns rows width height bands }
 {
-    let step = greater(width, height) / bands + 1;
-    let unit = greater(step, 32);
+    let step = width.max(height) / bands + 1;
+    let unit = step.max(32);
     let large = 96 < widgets;
-    let pitch = scaled(large, unit, lesser(width, height)) + 40;
+    let pitch = scaled(large, unit, width.min(height)) + 40;
     Page {
         widgets,
         columns,
@@ -92,9 +79,9 @@ fn ruled(widgets: usize, columns: usize, rows: usize, width: usize, height: usiz
     requires { (widgets ≤ 512) × (columns ≤ 32) × (rows ≤ 128) × (width ≤ 20000000) × (height ≤ 20000000) }
     ensures { (result ≡ ruled_by widgets columns rows width height) × InBounds result }
 {
-    let long = greater(width, height);
-    let short = lesser(width, height);
-    let bands = bands_from((widgets + 23) / 24, long, greater(short, 1));
+    let long = width.max(height);
+    let short = width.min(height);
+    let bands = bands_from((widgets + 23) / 24, long, short.max(1));
     cut(widgets, columns, rows, width, height, bands)
 }
 
@@ -125,6 +112,7 @@ pub fn thickness(page: Page) -> usize
     page.unit * 1000 / size_of(page.large)
 }
 
+#[tactic(auto, unfolding(crate::specs::Pages::bottom))]
 pub fn bottom(page: Page) -> usize
     requires { InBounds page }
     ensures { (result ≡ bottom_of page) × (108 ≤ result) × (result ≤ 640000000800000108) }
@@ -132,9 +120,10 @@ pub fn bottom(page: Page) -> usize
     if page.wide {
         return 108 + times(page.bands, page.pitch);
     }
-    148 + px(page, lesser(page.height, page.step))
+    148 + px(page, page.height.min(page.step))
 }
 
+#[tactic(auto, unfolding(crate::specs::Pages::page_width))]
 pub fn page_width(page: Page) -> usize
     requires { InBounds page }
     ensures { result ≡ page_width page }
@@ -143,7 +132,7 @@ pub fn page_width(page: Page) -> usize
     if page.wide {
         return size + 240;
     }
-    greater(size, times(page.bands, page.pitch)) + 240
+    size.max(times(page.bands, page.pitch)) + 240
 }
 
 fn per_column(page: Page) -> usize
@@ -180,13 +169,11 @@ pub fn bar_of(unit: usize) -> usize
     ensures { (result ≡ bar_from 21 2097152 unit) × (result ≤ 2097152) }
 {
     let mut bar: usize = 2097152;
-    let mut left: usize = 21;
-    while 0 < left {
+    for _ in 0..21usize {
         if 3 * bar <= unit {
             return bar;
         }
         bar /= 2;
-        left -= 1;
     }
     bar
 }

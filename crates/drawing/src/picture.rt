@@ -4,7 +4,7 @@ ghost use Rattle.drawing.specs.Pieces.{emits, filled};
 ghost use Rattle.drawing.specs.Pages.{InBounds};
 ghost use Rattle.drawing.specs.Pictures.{accepted, reason, refusal_number, refusal, drawn_from, drawn_in};
 
-use crate::lists::{beyond, count_lines, is_line, place_of};
+use crate::lists::{count_lines, is_line, place_of};
 use crate::pages::{page_for, page_height, page_width};
 use crate::sections::{put_head, put_key, put_picture, put_title};
 use crate::writing::{put_filled, put_words};
@@ -74,12 +74,13 @@ fn put_reason(out: &mut [u8], at: usize, list: &[u8], n: usize) -> usize
 }
 
 // The number of the X line that begins there, 0 where there is none.
+#[tactic(auto, unfolding(crate::specs::Pictures::refusal_number))]
 fn refusal_number(list: &[u8], line: usize) -> usize
     requires { line ≤ 1000000 }
     ensures { result ≡ refusal_number list.now line }
 {
     if is_line(list, line, b'X', 18) {
-        return beyond(10000000, place_of(list, line, 0));
+        return place_of(list, line, 0).saturating_sub(10000000);
     }
     0
 }

@@ -63,17 +63,14 @@ fn put_plain(out: &mut [u8], at: usize, z: i32) -> usize
 fn numeral(n: usize) -> i32
     ensures { (result ≡ numeral_of n) × (has_text (numeral_of n) ≡ true) }
 {
-    if n < 99999999 { n as i32 } else { 99999999 }
+    n.min(99999999) as i32
 }
 
 // 0 beyond the last.
 fn number(numbers: &[usize], i: usize) -> usize
     ensures { result ≡ get_or numbers.now i 0 }
 {
-    if i < numbers.len() {
-        return numbers[i];
-    }
-    0
+    numbers.get(i).copied().unwrap_or(0)
 }
 
 // "$", "@" and "~" are marks, and 0 is none.

@@ -9,19 +9,29 @@ use text::fields::{magnitude, read_field};
 
 const MAX_NUMBER: u32 = 9999999;
 
+// The place that stands for 0.
+pub const ORIGIN: usize = 10000000;
+
+// How long a W, a P and a C or D line are.
+pub const CONTROL_SIZE: usize = 74;
+
+pub const PLATE_SIZE: usize = 34;
+
+pub const CELL_SIZE: usize = 18;
+
+// A line of a list, by where it begins.
+#[derive(Clone, Copy)]
+pub struct Line<'a> {
+    pub list: &'a [u8],
+    pub at: usize,
+    ghost near: { at ≤ 1000000 },
+}
+
 #[tactic(auto, unfolding(crate::specs::Pieces::value_of))]
 fn value_of(f: Field) -> i32
     ensures { result ≡ value_of f }
 {
     if let Field::Number(z) = f { z } else { 0 }
-}
-
-// Field i, from 0, of the line that begins at a place.
-pub fn field_of(list: &[u8], line: usize, i: usize) -> i32
-    requires { (line ≤ 1000000) × (i ≤ 16) }
-    ensures { (result ≡ field_of list.now line i) × (has_text result ≡ true) × (nat_abs result ≤ 9999999) }
-{
-    value_of(read_field(list, line + (1 + 8 * i), MAX_NUMBER))
 }
 
 // Counted from ten million before zero.
@@ -31,24 +41,36 @@ fn biased(z: i32) -> usize
 {
     let n = magnitude(z) as usize;
     if z < 0 {
-        return 10000000 - n;
+        return ORIGIN - n;
     }
-    10000000 + n
+    ORIGIN + n
 }
 
-pub fn place_of(list: &[u8], line: usize, i: usize) -> usize
-    requires { (line ≤ 1000000) × (i ≤ 16) }
-    ensures { (result ≡ place_of list.now line i) × (result < 20000000) }
-{
-    biased(field_of(list, line, i))
-}
+impl Line<'_> {
+    // Field i, from 0.
+    pub fn field(self, i: usize) -> i32
+        requires { i ≤ 16 }
+        ensures { (result ≡ field_of self.entry.list.now self.entry.at i) × (has_text result ≡ true) × (nat_abs result ≤ 9999999) }
+    {
+        value_of(read_field(self.list, self.at + (1 + 8 * i), MAX_NUMBER))
+    }
 
-#[tactic(auto, unfolding(crate::specs::Pages::span))]
-pub fn span(list: &[u8], line: usize, i: usize, j: usize) -> usize
-    requires { (line ≤ 1000000) × (i ≤ 16) × (j ≤ 16) }
-    ensures { (result ≡ span_of list.now line i j) × (result ≤ 20000000) }
-{
-    place_of(list, line, j).saturating_sub(place_of(list, line, i))
+    #[tactic(auto, unfolding(crate::specs::Pages::place_of))]
+    pub fn place(self, i: usize) -> usize
+        requires { i ≤ 16 }
+        ensures { (result ≡ place_of self.entry.list.now self.entry.at i) × (result < 20000000) }
+    {
+        biased(self.field(i))
+    }
+
+    // From field i to field j, 0 where that is backward.
+    #[tactic(auto, unfolding(crate::specs::Pages::span))]
+    pub fn span(self, i: usize, j: usize) -> usize
+        requires { (i ≤ 16) × (j ≤ 16) }
+        ensures { (result ≡ span_of self.entry.list.now self.entry.at i j) × (result ≤ 20000000) }
+    {
+        self.place(j).saturating_sub(self.place(i))
+    }
 }
 
 // Whether a line of this letter and length begins there.

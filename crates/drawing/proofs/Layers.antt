@@ -1,9 +1,5 @@
 -- The loops over controls: a turn of each, and what each return answers. Assumes nothing.
-use Prim.Native.Nat.{ℕ, zero, suc, ◌+◌, ◌-◌, ◌≤◌, ◌<◌}
-use mathlib.Core.Path.{◌≡◌, refl}
-use mathlib.Core.Bool.{true, false}
-use mathlib.Core.List.{List, [], ◌++◌}
-use native.Mathlib.Omega.{arith}
+use Rattle.std.proofs.Common.{ℕ, zero, suc, ◌+◌, ◌-◌, ◌≤◌, ◌<◌, ◌≡◌, refl, true, false, List, [], ◌++◌, arith}
 use Rattle.drawing.specs.Drawings.{shares, seen, one, each}
 use Rattle.drawing.specs.declared.Layer.{Layer}
 use Rattle.drawing.specs.declared.Page.{Page}

@@ -1,15 +1,7 @@
 -- Pieces one after the other, and a turn of each loop. Assumes nothing.
-use Prim.Native.Nat.{ℕ, ◌+◌, ◌≤◌, ◌<◌, min}
-use mathlib.Core.Path.{◌≡◌, refl, ap, sym}
-use mathlib.Core.Bool.{Bool, true, false, cond, ◌&&◌, true≢false}
-use mathlib.Core.List.{List, [], ◌∷◌, ◌++◌}
-use native.Mathlib.Omega.{arith}
-use native.Mathlib.Numerals.{add-one}
-use borrow.Author.Tests.{le-leb, lt-leb, lt-ltb, leb-true}
-use lib.Dec.{leb}
-use lib.IntN.{ℤ, pos}
-use lib.ListN.{length, get_or, drop, set, drop_of_length-le}
-use lib.Seq.{sets, drop-cons}
+use Rattle.std.proofs.Common.{ℕ, ◌+◌, ◌≤◌, ◌<◌, min, ◌≡◌, refl, ap, sym, Bool, true, false, cond, ◌&&◌, true≢false, List, [], ◌∷◌, ◌++◌, arith, add-one, le-leb, lt-ltb, leb-true, leb, ℤ, pos, length, get_or, drop, set, drop_of_length-le, drop-cons}
+use borrow.Author.Tests.{lt-leb}
+use lib.Seq.{sets}
 use Rattle.text.specs.Fields.{text, columns, has_text, written_at}
 use Rattle.drawing.specs.Pieces.{Put, emit, emits, ink, inked, part, next, filled_from}
 

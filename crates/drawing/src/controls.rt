@@ -4,7 +4,7 @@ ghost use Rattle.drawing.specs.Drawings.{middle as middle_of, across as across_o
 
 use crate::Shared;
 use crate::lists::Line;
-use crate::pages::{Plate, times};
+use crate::pages::{LEFT, Plate, TOP};
 
 #[tactic(auto, unfolding(crate::specs::Drawings::middle))]
 fn middle(line: Line, i: usize, j: usize, from: usize) -> usize
@@ -124,10 +124,10 @@ impl Plate<'_> {
     {
         let x = self.across(k);
         if self.page.wide {
-            return 60 + self.px(x % self.page.step);
+            return LEFT + self.px(x % self.page.step);
         }
         let band = self.down(k) / self.page.step;
-        60 + self.px(x) + times(band, self.page.pitch)
+        LEFT + self.px(x) + band * self.page.pitch
     }
 
     #[tactic(auto, unfolding(crate::specs::Drawings::label_down))]
@@ -138,8 +138,8 @@ impl Plate<'_> {
         let y = self.down(k);
         if self.page.wide {
             let band = self.across(k) / self.page.step;
-            return 108 + self.px(y) + times(band, self.page.pitch);
+            return TOP + self.px(y) + band * self.page.pitch;
         }
-        108 + self.px(y % self.page.step)
+        TOP + self.px(y % self.page.step)
     }
 }

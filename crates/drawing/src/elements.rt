@@ -1,39 +1,51 @@
 // What is drawn for each line of the list, and for each band.
-ghost use Rattle.std.specs.Prelude.{◌≡◌, ◌+◌, ◌*◌, ◌≤◌};
+ghost use Rattle.std.specs.Prelude.{[], cond, ◌*◌, ◌≤◌};
 ghost use Rattle.drawing.specs.Implementation.Pens.{Writes};
-ghost use Rattle.drawing.specs.Drawings.{column_lines, row_lines, control, outlines, window, windows, captions, label, labels};
+ghost use Rattle.drawing.specs.Pieces.{filled};
+ghost use Rattle.drawing.specs.Drawings.{seen, column_lines, row_lines, control, outlines, window, windows, captions, label, labels};
 
 use crate::Shared;
-use crate::pages::{Plate, size_of, times};
+use crate::pages::{LEFT, Plate, TOP, size_of};
 use crate::writing::Pen;
 
-// A column's edges, unless an earlier control had them.
-#[tactic(auto, unfolding(crate::specs::Drawings::column_lines, crate::specs::Pieces::emits))]
+// The template with the fields of control k, unless an earlier control shares with it what is drawn.
+#[tactic(auto, unfolding(crate::specs::Pieces::emits))]
+fn put_unless_seen(pen: &mut Pen, plate: &Plate, k: usize, what: Shared, template: &[u8])
+    requires { k ≤ 512 }
+    ensures { Writes (cond (seen what plate.now.page plate.now.list.now k k) [] (filled template.now plate.now.list.now (74 * k) [])) pen.old pen.new }
+{
+    if !plate.seen(what, k) {
+        pen.put_filled(template, plate.line(k), &[]);
+    }
+}
+
+// A column's edges.
+#[tactic(auto, unfolding(crate::specs::Drawings::column_lines))]
 pub fn put_column_lines(pen: &mut Pen, plate: &Plate, k: usize)
     requires { k ≤ 512 }
     ensures { Writes (column_lines plate.now.page plate.now.list.now k) pen.old pen.new }
 {
-    if !plate.seen(Shared::Column, k) {
-        pen.put_filled(
-            b"<use href=\"#down\" x=\"$1\"/><use href=\"#down\" x=\"$3\"/>\n",
-            plate.line(k),
-            &[],
-        );
-    }
+    put_unless_seen(
+        pen,
+        plate,
+        k,
+        Shared::Column,
+        b"<use href=\"#down\" x=\"$1\"/><use href=\"#down\" x=\"$3\"/>\n",
+    );
 }
 
-#[tactic(auto, unfolding(crate::specs::Drawings::row_lines, crate::specs::Pieces::emits))]
+#[tactic(auto, unfolding(crate::specs::Drawings::row_lines))]
 pub fn put_row_lines(pen: &mut Pen, plate: &Plate, k: usize)
     requires { k ≤ 512 }
     ensures { Writes (row_lines plate.now.page plate.now.list.now k) pen.old pen.new }
 {
-    if !plate.seen(Shared::Row, k) {
-        pen.put_filled(
-            b"<use href=\"#across\" y=\"$2\"/><use href=\"#across\" y=\"$4\"/>\n",
-            plate.line(k),
-            &[],
-        );
-    }
+    put_unless_seen(
+        pen,
+        plate,
+        k,
+        Shared::Row,
+        b"<use href=\"#across\" y=\"$2\"/><use href=\"#across\" y=\"$4\"/>\n",
+    );
 }
 
 #[tactic(auto, unfolding(crate::specs::Drawings::control))]
@@ -75,21 +87,21 @@ fn put_window(pen: &mut Pen, plate: &Plate, i: usize)
     requires { i ≤ 512 }
     ensures { Writes (window plate.now.page plate.now.list.now i) pen.old pen.new }
 {
-    let place = times(i, plate.page.pitch);
-    let start = times(i, plate.page.step);
+    let place = i * plate.page.pitch;
+    let start = i * plate.page.step;
     let size = size_of(plate.page.large);
     let line = plate.own_line();
     if plate.page.wide {
         pen.put_filled(
             b"<svg x=\"60\" y=\"~0\" width=\"~1\" height=\"~1\" viewBox=\"$0 $1 ~2 ~2\"><use href=\"#plate\" x=\"-~3\"/></svg>\n",
             line,
-            &[108 + place, size, plate.page.unit, start],
+            &[TOP + place, size, plate.page.unit, start],
         );
     } else {
         pen.put_filled(
             b"<svg x=\"~0\" y=\"108\" width=\"~1\" height=\"~1\" viewBox=\"$0 $1 ~2 ~2\"><use href=\"#plate\" y=\"-~3\"/></svg>\n",
             line,
-            &[60 + place, size, plate.page.unit, start],
+            &[LEFT + place, size, plate.page.unit, start],
         );
     }
 }
@@ -115,8 +127,8 @@ pub fn put_caption(pen: &mut Pen, plate: &Plate, i: usize)
     requires { i ≤ 512 }
     ensures { Writes (captions plate.now.page plate.now.list.now i) pen.old pen.new }
 {
-    let place = times(i, plate.page.pitch);
-    let start = times(i, plate.page.step);
+    let place = i * plate.page.pitch;
+    let start = i * plate.page.step;
     if plate.page.wide {
         pen.put_numbers(
             b"<text class=\"row\" x=\"60\" y=\"~0\">from ~1 ticks on</text>\n",
@@ -127,7 +139,7 @@ pub fn put_caption(pen: &mut Pen, plate: &Plate, i: usize)
         pen.put_numbers(
             b"<text class=\"row\" x=\"~0\" y=\"102\">from ~1 ticks on</text>\n",
             plate.list,
-            &[60 + place, start],
+            &[LEFT + place, start],
         );
     }
 }

@@ -7,6 +7,7 @@ use crate::pages::Plate;
 use crate::writing::Pen;
 
 // The nearest to n ticks, a half upward.
+#[tactic(auto, unfolding(crate::specs::Pictures::hundredths))]
 fn hundredths(n: usize) -> usize
     requires { n ≤ 20000000 }
     ensures { result ≡ hundredths_in 32 n }

@@ -5,6 +5,22 @@ ghost use Rattle.drawing.specs.Pages.{bands_from, size_of, scaled as scaled_by, 
 use crate::Page;
 use crate::lists::{CELL_SIZE, CONTROL_SIZE, Line, PLATE_SIZE, count_lines};
 
+// The picture's corner, and the way from it to the next thing.
+pub const LEFT: usize = 60;
+
+pub const TOP: usize = 108;
+
+const GAP: usize = 40;
+
+// A row of the list below it.
+const ROW_WIDTH: usize = 500;
+
+const ROW_HEIGHT: usize = 14;
+
+const MAX_COLUMNS: usize = 32;
+
+const MAX_ROWS: usize = 128;
+
 // A list with its page, no number of which is too large to reckon with.
 #[derive(Clone, Copy)]
 pub struct Plate<'a> {
@@ -13,20 +29,13 @@ pub struct Plate<'a> {
     ghost in_bounds: { InBounds page },
 }
 
-pub fn times(i: usize, n: usize) -> usize
-    requires { (i ≤ 20000000) × (n ≤ 32000000040) }
-    ensures { (result ≡ i * n) × (result ≤ 640000000800000000) }
-{
-    i * n
-}
-
 // The most bands, at most n, that leave the picture no higher than wide.
 fn bands_from(n: usize, long: usize, short: usize) -> usize
     requires { (n ≤ 22) × (short ≤ 20000000) }
     ensures { (result ≡ bands_from n long short) × (0 < result) × (result ≤ 22) }
 {
     for k in (1..=n).rev() {
-        if times(k * k, short) <= long {
+        if k * k * short <= long {
             return k;
         }
     }
@@ -39,17 +48,12 @@ pub fn size_of(large: bool) -> usize
     if large { 1600 } else { 800 }
 }
 
+#[tactic(auto, unfolding(crate::specs::Pages::scaled))]
 fn scaled(large: bool, unit: usize, d: usize) -> usize
     requires { d ≤ 20000000 }
     ensures { (result ≡ scaled_by large unit d) × (result ≤ 32000000000) }
 {
-    if unit == 0 {
-        return 0;
-    }
-    if large {
-        return d * 1600 / unit;
-    }
-    d * 800 / unit
+    (d * size_of(large)).checked_div(unit).unwrap_or(0)
 }
 
 #[tactic(auto, unfolding(crate::specs::Pages::cut))]
@@ -67,7 +71,7 @@ fn cut(
     let step = width.max(height) / bands + 1;
     let unit = step.max(32);
     let large = 96 < widgets;
-    let pitch = scaled(large, unit, width.min(height)) + 40;
+    let pitch = scaled(large, unit, width.min(height)) + GAP;
     Page {
         widgets,
         columns,
@@ -105,8 +109,8 @@ impl<'a> Plate<'a> {
             at: CONTROL_SIZE * widgets,
         };
         let from = line.at + PLATE_SIZE;
-        let columns = count_lines(list, from, b'C', CELL_SIZE, 32);
-        let rows = count_lines(list, from + CELL_SIZE * columns, b'D', CELL_SIZE, 128);
+        let columns = count_lines(list, from, b'C', CELL_SIZE, MAX_COLUMNS);
+        let rows = count_lines(list, from + CELL_SIZE * columns, b'D', CELL_SIZE, MAX_ROWS);
         let page = ruled(widgets, columns, rows, line.span(0, 2), line.span(1, 3));
         Plate { page, list }
     }
@@ -159,9 +163,9 @@ impl<'a> Plate<'a> {
         ensures { (result ≡ bottom_of self.now.page) × (108 ≤ result) × (result ≤ 640000000800000108) }
     {
         if self.page.wide {
-            return 108 + times(self.page.bands, self.page.pitch);
+            return TOP + self.page.bands * self.page.pitch;
         }
-        148 + self.px(self.page.height.min(self.page.step))
+        TOP + self.px(self.page.height.min(self.page.step)) + GAP
     }
 
     #[tactic(auto, unfolding(crate::specs::Pages::page_width))]
@@ -172,7 +176,7 @@ impl<'a> Plate<'a> {
         if self.page.wide {
             return size + 240;
         }
-        size.max(times(self.page.bands, self.page.pitch)) + 240
+        size.max(self.page.bands * self.page.pitch) + 240
     }
 
     #[tactic(auto, unfolding(crate::specs::Pages::per_column))]
@@ -187,21 +191,21 @@ impl<'a> Plate<'a> {
         requires { i ≤ 2000 }
         ensures { result ≡ row_across self.now.page i }
     {
-        40 + 500 * (i / self.per_column())
+        GAP + ROW_WIDTH * (i / self.per_column())
     }
 
     #[tactic(auto, unfolding(crate::specs::Pages::row_down))]
     pub fn row_down(&self, i: usize) -> usize
         ensures { result ≡ row_down self.now.page i }
     {
-        self.bottom() + 72 + 14 * (i % self.per_column())
+        self.bottom() + 72 + ROW_HEIGHT * (i % self.per_column())
     }
 
     #[tactic(auto, unfolding(crate::specs::Pages::page_height))]
     pub fn page_height(&self) -> usize
         ensures { result ≡ page_height self.now.page }
     {
-        self.bottom() + 100 + 14 * self.per_column()
+        self.bottom() + 100 + ROW_HEIGHT * self.per_column()
     }
 }
 

@@ -1,7 +1,6 @@
 use Rattle.drawing.proofs.Ruling.{cut-in-bounds}
 use Rattle.drawing.specs.Pages.{ruled}
-use mathlib.Core.Path.{refl}
-use native.Mathlib.Omega.{arith}
+use Rattle.std.proofs.Common.{refl, arith}
 use Rattle.drawing.proofs.pages.ruled.Goals as goal
 
 pub returns : goal.returns

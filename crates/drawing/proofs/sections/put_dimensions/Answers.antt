@@ -1,5 +1,5 @@
 use Rattle.drawing.specs.Pictures.{dimensions}
-use borrow.Author.Tests.{eq-eqb}
+use Rattle.std.proofs.Common.{eq-eqb}
 use Rattle.drawing.proofs.Pens.{after}
 use Rattle.drawing.proofs.sections.put_dimensions.Goals as goal
 

@@ -43,9 +43,8 @@ impl Plate<'_> {
         requires { k ≤ 512 }
         ensures { result ≡ covers_by self.now.page self.now.list.now k width height }
     {
-        let w = self.px(self.line(k).span(5, 7));
-        let h = self.px(self.line(k).span(6, 8));
-        (width <= w) & (height <= h)
+        let line = self.line(k);
+        width <= self.px(line.span(5, 7)) && height <= self.px(line.span(6, 8))
     }
 
     #[tactic(auto, unfolding(crate::specs::Drawings::near))]
@@ -53,9 +52,8 @@ impl Plate<'_> {
         requires { (j ≤ 512) × (k ≤ 512) }
         ensures { result ≡ near_by self.now.page self.now.list.now j k width height }
     {
-        let x = self.px(self.across(j)).abs_diff(self.px(self.across(k)));
-        let y = self.px(self.down(j)).abs_diff(self.px(self.down(k)));
-        (x < width) & (y < height)
+        self.px(self.across(j)).abs_diff(self.px(self.across(k))) < width
+            && self.px(self.down(j)).abs_diff(self.px(self.down(k))) < height
     }
 
     // Whether the labels of two controls would touch; those of two small ones are small.
@@ -64,7 +62,7 @@ impl Plate<'_> {
         requires { (j ≤ 512) × (k ≤ 512) }
         ensures { result ≡ touching_at self.now.page self.now.list.now j k }
     {
-        if self.covers(j, 22, 11) | self.covers(k, 22, 11) {
+        if self.covers(j, 22, 11) || self.covers(k, 22, 11) {
             return self.near(j, k, 20, 10);
         }
         self.near(j, k, 16, 8)
@@ -75,9 +73,8 @@ impl Plate<'_> {
         requires { (j ≤ 512) × (k ≤ 512) × (i ≤ 8) }
         ensures { result ≡ same_fields self.now.list.now j k i }
     {
-        let low = self.line(j).place(i) == self.line(k).place(i);
-        let high = self.line(j).place(i + 2) == self.line(k).place(i + 2);
-        low & high
+        let (one, other) = (self.line(j), self.line(k));
+        one.place(i) == other.place(i) && one.place(i + 2) == other.place(i + 2)
     }
 
     // `shares` of RULES 7.10 is over this enum, so no closure stands in its place.
@@ -112,9 +109,8 @@ impl Plate<'_> {
         requires { k ≤ 512 }
         ensures { result ≡ flat_at self.now.list.now k }
     {
-        let width = self.line(k).span(5, 7);
-        let height = self.line(k).span(6, 8);
-        (width == 0) | (height == 0)
+        let line = self.line(k);
+        line.span(5, 7) == 0 || line.span(6, 8) == 0
     }
 
     #[tactic(auto, unfolding(crate::specs::Drawings::label_across))]

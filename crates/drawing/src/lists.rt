@@ -5,7 +5,7 @@ ghost use Rattle.drawing.specs.Pieces.{value_of, field_of};
 ghost use Rattle.drawing.specs.Pages.{biased as biased_by, place_of, span as span_of, is_line, lines_from};
 
 use text::Field;
-use text::fields::{magnitude, read_field};
+use text::fields::read_field;
 
 const MAX_NUMBER: u32 = 9999999;
 
@@ -35,15 +35,13 @@ fn value_of(f: Field) -> i32
 }
 
 // Counted from ten million before zero.
+#[tactic(auto, unfolding(crate::specs::Pages::biased))]
 fn biased(z: i32) -> usize
     requires { nat_abs z ≤ 9999999 }
     ensures { (result ≡ biased_by z) × (result < 20000000) }
 {
-    let n = magnitude(z) as usize;
-    if z < 0 {
-        return ORIGIN - n;
-    }
-    ORIGIN + n
+    let n = z.unsigned_abs() as usize;
+    if z < 0 { ORIGIN - n } else { ORIGIN + n }
 }
 
 impl Line<'_> {

@@ -27,6 +27,7 @@ pub struct Line<'a> {
     ghost near: { at ≤ 1000000 },
 }
 
+// 0 where there is no number, as `value_of` of RULES 7.10 has it.
 #[tactic(auto, unfolding(crate::specs::Pieces::value_of))]
 fn value_of(f: Field) -> i32
     ensures { result ≡ value_of f }

@@ -19,7 +19,8 @@ fn put_accepted(pen: &mut Pen, plate: &Plate, metric: bool)
     put_key(pen, plate);
 }
 
-// What a refusal's number means. 0 and any other have the last sentence.
+// What a refusal's number means. The number is read from the list, and `reason` of RULES 7.10 is over every one, 0 for none among them: an
+// enum would only name the arms twice.
 #[tactic(auto, unfolding(crate::specs::Pictures::reason))]
 fn reason(n: usize) -> &'static [u8]
     ensures { result.now ≡ reason_of n }

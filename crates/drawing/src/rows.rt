@@ -60,7 +60,8 @@ fn put_row_row(pen: &mut Pen, plate: &Plate, k: usize)
     );
 }
 
-// `one` and `each` of RULES 7.10 are over this enum, so no closure stands in its place.
+// `one` and `each` of RULES 7.10 are over this enum, so no closure stands in its place. By the layer, i counts bands, controls, columns or
+// rows: the bound on it is no fact of one of these.
 #[tactic(auto, unfolding(crate::specs::Drawings::one))]
 fn put_one(pen: &mut Pen, plate: &Plate, layer: Layer, i: usize)
     requires { i ≤ 512 }

@@ -27,7 +27,7 @@ impl Plate<'_> {
         middle(self.line(k), 5, 7, left)
     }
 
-    // From its top.
+    // From its top. Each has its own definition (`across`, `down` of RULES 7.10), and what they share is `middle`.
     #[tactic(auto, unfolding(crate::specs::Drawings::down))]
     fn down(&self, k: usize) -> usize
         requires { k ≤ 512 }
@@ -113,6 +113,7 @@ impl Plate<'_> {
         line.span(5, 7) == 0 || line.span(6, 8) == 0
     }
 
+    // Each way has its own definition, as the bands lie across or down.
     #[tactic(auto, unfolding(crate::specs::Drawings::label_across))]
     pub fn label_across(&self, k: usize) -> usize
         requires { k ≤ 512 }

@@ -9,6 +9,8 @@ use text::fields::read_field;
 
 const MAX_NUMBER: u32 = 9999999;
 
+pub const MAX_CONTROLS: usize = 512;
+
 // The place that stands for 0.
 pub const ORIGIN: usize = 10000000;
 

@@ -93,6 +93,7 @@ fn ruled(widgets: usize, columns: usize, rows: usize, width: usize, height: usiz
 {
     let long = width.max(height);
     let short = width.min(height);
+    // One for each 24 controls.
     let bands = bands_from((widgets + 23) / 24, long, short.max(1));
     cut(widgets, columns, rows, width, height, bands)
 }

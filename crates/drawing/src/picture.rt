@@ -4,7 +4,9 @@ ghost use Rattle.drawing.specs.Implementation.Pens.{Writes};
 ghost use Rattle.drawing.specs.Pictures.{accepted, reason as reason_of, refusal_number, refusal, drawn_from, drawn_in};
 
 use crate::MAX_DRAWING;
-use crate::lists::{CELL_SIZE, CONTROL_SIZE, Line, ORIGIN, PLATE_SIZE, count_lines, is_line};
+use crate::lists::{
+    CELL_SIZE, CONTROL_SIZE, Line, MAX_CONTROLS, ORIGIN, PLATE_SIZE, count_lines, is_line,
+};
 use crate::pages::Plate;
 use crate::sections::{put_head, put_key, put_picture, put_title};
 use crate::writing::Pen;
@@ -90,7 +92,7 @@ pub fn draw(metric: bool, list: &[u8], out: &mut [u8; MAX_DRAWING]) -> usize
         &mut pen,
         metric,
         list,
-        count_lines(list, 0, b'W', CONTROL_SIZE, 512),
+        count_lines(list, 0, b'W', CONTROL_SIZE, MAX_CONTROLS),
     );
     pen.at
 }

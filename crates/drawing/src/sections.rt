@@ -91,6 +91,7 @@ fn put_shapes(pen: &mut Pen, plate: &Plate)
     pen.put_words(b"</g>\n</defs>\n", plate.list);
 }
 
+// The width's line and the height's differ in every number and template: one function for both would have an argument for each.
 #[tactic(auto, unfolding(crate::specs::Pictures::width_line))]
 fn put_width_line(pen: &mut Pen, plate: &Plate)
     ensures { Writes (width_line plate.now.page plate.now.list.now) pen.old pen.new }

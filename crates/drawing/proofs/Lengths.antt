@@ -1,12 +1,5 @@
 -- How long each part of a drawing can be, and so the whole: it has room in 300,000 bytes. Assumes nothing.
-use Prim.Native.Nat.{ℕ, zero, suc, ◌+◌, ◌*◌, ◌%◌, ◌≤◌}
-use mathlib.Core.Path.{◌≡◌, refl, ap, ◌∙◌}
-use mathlib.Core.Bool.{Bool, true, false, cond}
-use mathlib.Core.List.{List, [], ◌++◌}
-use native.Mathlib.Omega.{arith}
-use native.Mathlib.Nat.{mul-le-mul}
-use lib.Dec.{T, leb, eqb, lit≤}
-use lib.ListN.{length}
+use Rattle.std.proofs.Common.{ℕ, zero, suc, ◌+◌, ◌*◌, ◌%◌, ◌≤◌, ◌≡◌, refl, ap, ◌∙◌, Bool, true, false, cond, List, [], ◌++◌, arith, mul-le-mul, T, leb, eqb, lit≤, length}
 use Rattle.drawing.specs.Pieces.{Put, emits, marked, next, filled, joined}
 use Rattle.drawing.specs.Pages.{InBounds, is_line, lines_from, page_for, page_width, page_height}
 use Rattle.drawing.specs.Drawings.{column_lines, row_lines, control, outlines, window, whole_window, windows, captions, label, labels, widget_row, plate_row, column_row, row_row, one, each, seen, flat, covers}

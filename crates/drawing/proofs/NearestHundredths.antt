@@ -1,8 +1,7 @@
 -- The hundredths of a millimetre that a drawing shows are at most half of one from the length (RULES 7.12), for any number of steps in a
 -- point. A point has 635 / 18 hundredths. Assumes nothing.
-use Prim.Native.Nat.{ℕ, ◌+◌, ◌*◌, ◌≤◌, ◌<◌}
-use native.Mathlib.Omega.{arith}
-use native.Mathlib.Nat.{div-mul-le_self, lt-div-mul-add}
+use Rattle.std.proofs.Common.{ℕ, ◌+◌, ◌*◌, ◌≤◌, ◌<◌, arith, div-mul-le_self}
+use native.Mathlib.Nat.{lt-div-mul-add}
 use Rattle.drawing.specs.Pictures.{hundredths}
 
 pub shown-near : (per_point n : ℕ) → 0 < per_point

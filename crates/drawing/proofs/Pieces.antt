@@ -1,15 +1,7 @@
--- Pieces one after the other: what was written after each function's return, and a turn of each loop. Assumes nothing.
-use Prim.Native.Nat.{ℕ, ◌+◌, ◌≤◌, ◌<◌, min}
-use mathlib.Core.Path.{◌≡◌, refl, ap, sym, ◌∙◌}
-use mathlib.Core.Bool.{Bool, true, false, cond, ◌&&◌, true≢false}
-use mathlib.Core.List.{List, [], ◌∷◌, ◌++◌}
-use native.Mathlib.Omega.{arith}
-use native.Mathlib.Numerals.{add-one}
-use borrow.Author.Tests.{le-leb, lt-leb, lt-ltb, leb-true}
-use lib.Dec.{leb}
-use lib.IntN.{ℤ, pos}
-use lib.ListN.{length, get_or, drop, set, drop_of_length-le}
-use lib.Seq.{sets, drop-cons}
+-- Pieces one after the other, and a turn of each loop. Assumes nothing.
+use Rattle.std.proofs.Common.{ℕ, ◌+◌, ◌≤◌, ◌<◌, min, ◌≡◌, refl, ap, sym, Bool, true, false, cond, ◌&&◌, true≢false, List, [], ◌∷◌, ◌++◌, arith, add-one, le-leb, lt-ltb, leb-true, leb, ℤ, pos, length, get_or, drop, set, drop_of_length-le, drop-cons}
+use borrow.Author.Tests.{lt-leb}
+use lib.Seq.{sets}
 use Rattle.text.specs.Fields.{text, columns, has_text, written_at}
 use Rattle.drawing.specs.Pieces.{Put, emit, emits, ink, inked, part, next, filled_from}
 
@@ -19,12 +11,12 @@ emits-append [] ys p = refl
 emits-append (x ∷ xs) ys p = emits-append xs ys (emit x p)
 
 -- ---- a byte
-pub byte_put : (out : List ℕ) (at b : ℕ) → at < length out → ◌≡◌ {A = Put} (record { at = at + 1; out = set out at b }) (emit (b ∷ []) (record { at = at; out = out }))
-unfolding emit
+pub byte_put : (out : List ℕ) (at b : ℕ) → at < length out → ◌≡◌ {A = Put} (record { at = at + 1; out = set out at b }) (emits ((b ∷ []) ∷ []) (record { at = at; out = out }))
+unfolding emit emits
 byte_put out at b h = rw (le-leb (at + 1) (length out) (omega arith))
 
-pub no_byte : (out : List ℕ) (at b : ℕ) → length out ≤ at → ◌≡◌ {A = Put} (record { at = at; out = out }) (emit (b ∷ []) (record { at = at; out = out }))
-unfolding emit
+pub no_byte : (out : List ℕ) (at b : ℕ) → length out ≤ at → ◌≡◌ {A = Put} (record { at = at; out = out }) (emits ((b ∷ []) ∷ []) (record { at = at; out = out }))
+unfolding emit emits
 no_byte out at b h = rw (lt-leb (at + 1) (length out) (omega arith))
 
 -- ---- a number
@@ -48,39 +40,29 @@ module _ (out o : List ℕ) (at : ℕ) (z : ℤ) (t : has_text z ≡ true) where
       go false n u e = absurd (true≢false (ap (λ (p : Bool × List ℕ). p.0) e))
 
 -- ---- the bytes that are no spaces
-module _ (bs : List ℕ) (i : ℕ) (p r : Put) (inv : emits (inked (drop i bs)) p ≡ r) where
-  from : i < length bs → drop i bs ≡ get_or bs i 0 ∷ drop (i + 1) bs
-  from h = drop-cons bs i 0 h ∙ rw add-one
-
-  pub ink-turn : i < length bs → (q : Put) → q ≡ emits (ink (get_or bs i 0)) p → emits (inked (drop (i + 1) bs)) q ≡ r
+module _ (bs : List ℕ) (i : ℕ) where
+  pub ink-turn : i < length bs → inked (drop i bs) ≡ ink (get_or bs i 0) ++ inked (drop (i + 1) bs)
   unfolding inked
-  ink-turn h q e = rw e (sym (emits-append (ink (get_or bs i 0)) (inked (drop (i + 1) bs)) p) ∙ (rw (from h) at inv))
+  ink-turn h = rw (drop-cons bs i 0 h, add-one)
 
-  pub ink-end : length bs ≤ i → p ≡ r
-  unfolding inked emits
-  ink-end h = rw (drop_of_length-le bs h) at inv
+  pub ink-end : length bs ≤ i → inked (drop i bs) ≡ []
+  unfolding inked
+  ink-end h = rw (drop_of_length-le bs h)
 
 -- ---- a template
-module _ (t s : List ℕ) (line : ℕ) (ns : List ℕ) (mark i : ℕ) (p r : Put) (inv : emits (filled_from mark (drop i t) s line ns) p ≡ r) where
-  here : i < length t → drop i t ≡ get_or t i 0 ∷ drop (i + 1) t
-  here h = drop-cons t i 0 h ∙ rw add-one
-
-  pub part-turn : i < length t → (q : Put) (m : ℕ) → q ≡ emits (part mark (get_or t i 0) s line ns) p → m ≡ next mark (get_or t i 0) → emits (filled_from m (drop (i + 1) t) s line ns) q ≡ r
+module _ (t s : List ℕ) (line : ℕ) (ns : List ℕ) (mark i : ℕ) where
+  pub part-turn : i < length t → filled_from mark (drop i t) s line ns ≡ part mark (get_or t i 0) s line ns ++ filled_from (next mark (get_or t i 0)) (drop (i + 1) t) s line ns
   unfolding filled_from
-  part-turn h q m e f = rw (e, f) (sym (emits-append (part mark (get_or t i 0) s line ns) (filled_from (next mark (get_or t i 0)) (drop (i + 1) t) s line ns) p) ∙ (rw (here h) at inv))
+  part-turn h = rw (drop-cons t i 0 h, add-one)
 
-  pub part_end : length t ≤ i → p ≡ r
-  unfolding filled_from emits
-  part_end h = rw (drop_of_length-le t h) at inv
+  pub part_end : length t ≤ i → filled_from mark (drop i t) s line ns ≡ []
+  unfolding filled_from
+  part_end h = rw (drop_of_length-le t h)
 
 -- ---- numbers that are not in the list
-pub numeral-below : (n : ℕ) → n < 99999999 → (pos n ≡ pos (min n 99999999)) × (has_text (pos (min n 99999999)) ≡ true)
+pub numeral-shown : (n : ℕ) → (pos (min n 99999999) ≡ pos (min n 99999999)) × (has_text (pos (min n 99999999)) ≡ true)
 unfolding has_text
-numeral-below n h = let e : min n 99999999 ≡ n = omega arith in rw e (refl, lt-ltb n 100000000 (omega arith))
-
-pub numeral-beyond : (n : ℕ) → 99999999 ≤ n → (pos 99999999 ≡ pos (min n 99999999)) × (has_text (pos (min n 99999999)) ≡ true)
-unfolding has_text
-numeral-beyond n h = let e : min n 99999999 ≡ 99999999 = omega arith in rw e (refl, refl)
+numeral-shown n = (refl, lt-ltb (min n 99999999) 100000000 (omega arith))
 
 -- ---- a number in columns of its own
 pub text-over : (o : List ℕ) (b : Bool) (z : ℤ) → has_text z ≡ true → (b, o) ≡ written_at (32 ∷ 32 ∷ 32 ∷ 32 ∷ 32 ∷ 32 ∷ 32 ∷ 32 ∷ []) 0 z → o ≡ text z

@@ -1,11 +1,5 @@
 -- Where there is room for all pieces, they are written one after the other, and nothing else is. Assumes nothing.
-use Prim.Native.Nat.{ℕ, ◌+◌, ◌≤◌}
-use mathlib.Core.Path.{◌≡◌, refl, ap, sym, ◌∙◌}
-use mathlib.Core.List.{List, [], ◌∷◌, ◌++◌, append_assoc}
-use native.Mathlib.Omega.{arith}
-use native.Mathlib.Nat.{add-zero}
-use borrow.Author.Tests.{le-leb}
-use lib.ListN.{length, length-append}
+use Rattle.std.proofs.Common.{ℕ, ◌+◌, ◌≤◌, ◌≡◌, refl, ap, sym, ◌∙◌, List, [], ◌∷◌, ◌++◌, append_assoc, arith, add-zero, le-leb, length, length-append}
 use lib.Seq.{sets, length-sets}
 use Rattle.text.proofs.LineTexts.{sets-append}
 use Rattle.drawing.specs.Pieces.{Put, emit, emits, joined}

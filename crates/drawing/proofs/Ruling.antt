@@ -1,15 +1,7 @@
 -- Lines counted, and the page's numbers: a turn of each loop, what each return answers, and that nothing is too large to reckon with.
 -- Assumes nothing.
-use Prim.Native.Nat.{ℕ, zero, suc, ◌+◌, ◌-◌, ◌*◌, ◌/◌, ◌≤◌, ◌<◌, max, min}
-use mathlib.Core.Path.{◌≡◌, refl, sym}
-use mathlib.Core.Bool.{Bool, true, false, ◌&&◌, true≢false}
-use mathlib.Core.List.{List}
-use native.Mathlib.Omega.{arith}
-use native.Mathlib.Nat.{mul-le-mul, div-le_self}
-use borrow.Author.Tests.{le-leb, lt-leb, leb-true}
-use lib.Dec.{leb, ltb, eqb, lit≤}
-use lib.IntN.{ℤ, pos, negsuc, nat_abs}
-use lib.ListN.{length, get_or}
+use Rattle.std.proofs.Common.{ℕ, zero, suc, ◌+◌, ◌-◌, ◌*◌, ◌/◌, ◌≤◌, ◌<◌, max, min, ◌≡◌, refl, sym, Bool, true, false, ◌&&◌, true≢false, List, arith, div-le_self, le-leb, leb-true, leb, ltb, eqb, lit≤, ℤ, pos, negsuc, nat_abs, length, get_or}
+use borrow.Author.Tests.{lt-leb}
 use Rattle.text.specs.Fields.{negative}
 use Rattle.text.specs.Fields.{field_at}
 use Rattle.drawing.specs.Pieces.{value_of, field_of}
@@ -37,14 +29,6 @@ module _ (letter size : ℕ) (s : List ℕ) (at : ℕ) where
       go true t e = leb-true (at + size) (length s) t
       go false t e = absurd (true≢false (sym e))
 
-  pub no_line : length s < at + size → false ≡ is_line letter size s at
-  unfolding is_line
-  no_line h = rw (lt-leb (at + size) (length s) h)
-
-  pub line-there : at + size ≤ length s → eqb (get_or s at 0) letter ≡ is_line letter size s at
-  unfolding is_line
-  line-there h = rw (le-leb (at + size) (length s) h)
-
   pub lines-turn : (left n r : ℕ) → n + lines_from left letter size s at ≡ r → 0 < left → is_line letter size s at ≡ true → n + 1 + lines_from (left - 1) letter size s (at + size) ≡ r
   unfolding lines_from
   lines-turn zero n r inv h e = absurd (omega arith)
@@ -52,6 +36,12 @@ module _ (letter size : ℕ) (s : List ℕ) (at : ℕ) where
       let f : suc left - 1 ≡ left = omega arith in
       let g = rw e at inv in
       rw f (omega (arith, g))
+
+  pub lines-none : (most : ℕ) → 0 + lines_from (most - 0) letter size s (at + size * 0) ≡ lines_from most letter size s at
+  lines-none most =
+      let e : most - 0 ≡ most = omega arith in
+      let f : at + size * 0 ≡ at = omega arith in
+      rw (e, f) (omega arith)
 
   pub lines-stop : (left n r : ℕ) → n + lines_from left letter size s at ≡ r → is_line letter size s at ≡ false → n ≡ r
   unfolding lines_from
@@ -63,14 +53,8 @@ module _ (letter size : ℕ) (s : List ℕ) (at : ℕ) where
   lines_end zero n r inv h = omega arith
   lines_end (suc left) n r inv h = absurd (omega arith)
 
--- ---- products and quotients
-pub times-small : (i n : ℕ) → i ≤ 20000000 → n ≤ 32000000040 → i * n ≤ 640000000800000000
-times-small i n a b = mul-le-mul a b
-
-pub square-small : (k : ℕ) → k ≤ 22 → k * k ≤ 484
-square-small k h = mul-le-mul h h
-
-pub quotient-small : (d unit : ℕ) → d ≤ 20000000 → (d * 1600 / unit ≤ 32000000000) × (d * 800 / unit ≤ 32000000000)
+-- ---- quotients
+quotient-small : (d unit : ℕ) → d ≤ 20000000 → (d * 1600 / unit ≤ 32000000000) × (d * 800 / unit ≤ 32000000000)
 quotient-small d unit h = (omega (arith, div-le_self (d * 1600) unit), omega (arith, div-le_self (d * 800) unit))
 
 -- ---- bands

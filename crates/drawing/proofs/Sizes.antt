@@ -1,13 +1,6 @@
 -- How long a drawing can be: a template is at most as long as its bytes, each number in it eight bytes; so a drawing has room. Assumes
 -- nothing.
-use Prim.Native.Nat.{ℕ, ◌+◌, ◌%◌, ◌≤◌}
-use mathlib.Core.Path.{◌≡◌, refl}
-use mathlib.Core.Bool.{Bool, true, false, cond}
-use mathlib.Core.List.{List, [], ◌∷◌}
-use native.Mathlib.Omega.{arith}
-use lib.Dec.{eqb, lit≤}
-use lib.IntN.{ℤ}
-use lib.ListN.{length, get_or}
+use Rattle.std.proofs.Common.{ℕ, ◌+◌, ◌%◌, ◌≤◌, ◌≡◌, refl, Bool, true, false, cond, List, [], ◌∷◌, arith, eqb, lit≤, ℤ, length, get_or}
 use Rattle.text.specs.Fields.{text, columns}
 use Rattle.drawing.specs.Pieces.{field_of, ink, inked, numeral, marked, unmarked, part, next, filled_from, joined}
 use Rattle.drawing.proofs.Room.{size, size-append}

@@ -3,3 +3,5 @@ pub mod Pieces
 pub mod Pages
 pub mod Drawings
 pub mod Pictures
+-- Not part of the specification.
+pub mod Implementation

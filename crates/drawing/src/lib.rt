@@ -15,7 +15,8 @@ mod writing;
 pub const MAX_DRAWING: usize = 300000;
 
 // How many lines the list has, the plate's size in ticks, and how the picture is ruled: cut into bands across the longer side, each of
-// `step` ticks, where `unit` ticks are as long as the picture; `pitch` is the way from band to band on the page.
+// `step` ticks, where `unit` ticks are as long as the picture; `pitch` is the way from band to band on the page. RULES 7.10 is over these
+// fields, the flags `wide` and `large` among them.
 #[derive(Clone, Copy)]
 pub struct Page {
     pub widgets: usize,

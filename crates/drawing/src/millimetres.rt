@@ -1,13 +1,13 @@
 // The plate's size in millimetres, for a sheet whose controls are in hundredths of one (RULES 7.12).
 ghost use Rattle.std.specs.Prelude.{◌≡◌, ◌≤◌};
-ghost use Rattle.drawing.specs.Pieces.{emits};
-ghost use Rattle.drawing.specs.Pages.{InBounds};
+ghost use Rattle.drawing.specs.Implementation.Pens.{Writes};
 ghost use Rattle.drawing.specs.Pictures.{hundredths as hundredths_in, millimetres, size_in_millimetres, in_millimetres};
 
-use crate::Page;
-use crate::writing::{put_filled, put_words};
+use crate::pages::Plate;
+use crate::writing::Pen;
 
 // The nearest to n ticks, a half upward.
+#[tactic(auto, unfolding(crate::specs::Pictures::hundredths))]
 fn hundredths(n: usize) -> usize
     requires { n ≤ 20000000 }
     ensures { result ≡ hundredths_in 32 n }
@@ -16,32 +16,31 @@ fn hundredths(n: usize) -> usize
 }
 
 // With two decimals.
-fn put_millimetres(out: &mut [u8], at: usize, list: &[u8], n: usize) -> usize
+#[tactic(auto, unfolding(crate::specs::Pictures::millimetres))]
+fn put_millimetres(pen: &mut Pen, list: &[u8], n: usize)
     requires { n ≤ 20000000 }
-    ensures { record { at = result; out = out.new } ≡ emits (millimetres list.now n) (record { at = at; out = out.old }) }
+    ensures { Writes (millimetres list.now n) pen.old pen.new }
 {
     let h = hundredths(n);
-    let numbers = [h / 100, h / 10 % 10, h % 10];
-    put_filled(out, at, b"~0.~1~2 mm", list, 0, &numbers)
+    pen.put_numbers(b"~0.~1~2 mm", list, &[h / 100, h / 10 % 10, h % 10]);
 }
 
-fn put_size(out: &mut [u8], at: usize, page: Page, list: &[u8]) -> usize
-    requires { InBounds page }
-    ensures { record { at = result; out = out.new } ≡ emits (size_in_millimetres page list.now) (record { at = at; out = out.old }) }
+#[tactic(auto, unfolding(crate::specs::Pictures::size_in_millimetres))]
+fn put_size(pen: &mut Pen, plate: &Plate)
+    ensures { Writes (size_in_millimetres plate.now.page plate.now.list.now) pen.old pen.new }
 {
-    let first = put_words(out, at, b" (", list);
-    let wide = put_millimetres(out, first, list, page.width);
-    let by = put_words(out, wide, b" &#215; ", list);
-    let tall = put_millimetres(out, by, list, page.height);
-    put_words(out, tall, b", rounded)", list)
+    pen.put_words(b" (", plate.list);
+    put_millimetres(pen, plate.list, plate.page.width);
+    pen.put_words(b" &#215; ", plate.list);
+    put_millimetres(pen, plate.list, plate.page.height);
+    pen.put_words(b", rounded)", plate.list);
 }
 
-pub fn put_in_millimetres(out: &mut [u8], at: usize, metric: bool, page: Page, list: &[u8]) -> usize
-    requires { InBounds page }
-    ensures { record { at = result; out = out.new } ≡ emits (in_millimetres metric page list.now) (record { at = at; out = out.old }) }
+#[tactic(auto, unfolding(crate::specs::Pictures::in_millimetres, crate::specs::Pieces::emits))]
+pub fn put_in_millimetres(pen: &mut Pen, plate: &Plate, metric: bool)
+    ensures { Writes (in_millimetres metric plate.now.page plate.now.list.now) pen.old pen.new }
 {
     if metric {
-        return put_size(out, at, page, list);
+        put_size(pen, plate);
     }
-    at
 }

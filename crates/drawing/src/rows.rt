@@ -1,122 +1,91 @@
 // The list's rows below the picture, and the layers one after the other.
 ghost use Rattle.std.specs.Prelude.{◌≡◌, ◌+◌, ◌*◌, ◌≤◌};
-ghost use Rattle.drawing.specs.Pieces.{emits};
-ghost use Rattle.drawing.specs.Pages.{InBounds};
+ghost use Rattle.drawing.specs.Implementation.Pens.{Writes};
 ghost use Rattle.drawing.specs.Drawings.{widget_row, plate_row, column_row, row_row, one, each};
 
+use crate::Layer;
 use crate::elements::{
     put_caption, put_column_lines, put_labels, put_outlines, put_row_lines, put_windows,
 };
-use crate::pages::{row_across, row_down};
-use crate::writing::put_filled;
-use crate::{Layer, Page};
+use crate::pages::Plate;
+use crate::writing::Pen;
 
-fn put_widget_row(out: &mut [u8], at: usize, page: Page, list: &[u8], k: usize) -> usize
-    requires in_bounds { InBounds page }
-    requires k_bound { k ≤ 512 }
-    ensures { record { at = result; out = out.new } ≡ emits (widget_row page list.now k) (record { at = at; out = out.old }) }
+#[tactic(auto, unfolding(crate::specs::Drawings::widget_row))]
+fn put_widget_row(pen: &mut Pen, plate: &Plate, k: usize)
+    requires { k ≤ 512 }
+    ensures { Writes (widget_row plate.now.page plate.now.list.now k) pen.old pen.new }
 {
-    let numbers = [row_across(page, k), row_down(page, k)];
-    put_filled(
-        out,
-        at,
+    pen.put_filled(
         b"<text class=\"row\" xml:space=\"preserve\" x=\"~0\" y=\"~1\">W @0 @1 @2 @3 @4 @5 @6 @7 @8</text>\n",
-        list,
-        74 * k,
-        &numbers,
-    )
+        plate.line(k),
+        &[plate.row_across(k), plate.row_down(k)],
+    );
 }
 
-pub fn put_plate_row(out: &mut [u8], at: usize, page: Page, list: &[u8]) -> usize
-    requires { InBounds page }
-    ensures { record { at = result; out = out.new } ≡ emits (plate_row page list.now) (record { at = at; out = out.old }) }
+#[tactic(auto, unfolding(crate::specs::Drawings::plate_row))]
+pub fn put_plate_row(pen: &mut Pen, plate: &Plate)
+    ensures { Writes (plate_row plate.now.page plate.now.list.now) pen.old pen.new }
 {
-    let i = page.widgets;
-    let numbers = [row_across(page, i), row_down(page, i)];
-    put_filled(
-        out,
-        at,
+    let i = plate.page.widgets;
+    pen.put_filled(
         b"<text class=\"row\" xml:space=\"preserve\" x=\"~0\" y=\"~1\">P @0 @1 @2 @3</text>\n",
-        list,
-        74 * i,
-        &numbers,
-    )
+        plate.own_line(),
+        &[plate.row_across(i), plate.row_down(i)],
+    );
 }
 
-fn put_column_row(out: &mut [u8], at: usize, page: Page, list: &[u8], k: usize) -> usize
-    requires in_bounds { InBounds page }
-    requires k_bound { k ≤ 512 }
-    ensures { record { at = result; out = out.new } ≡ emits (column_row page list.now k) (record { at = at; out = out.old }) }
+#[tactic(auto, unfolding(crate::specs::Drawings::column_row))]
+fn put_column_row(pen: &mut Pen, plate: &Plate, k: usize)
+    requires { k ≤ 512 }
+    ensures { Writes (column_row plate.now.page plate.now.list.now k) pen.old pen.new }
 {
-    let i = page.widgets + 1 + k;
-    let line = 74 * page.widgets + 34 + 18 * k;
-    let numbers = [row_across(page, i), row_down(page, i)];
-    put_filled(
-        out,
-        at,
+    let i = plate.page.widgets + 1 + k;
+    pen.put_filled(
         b"<text class=\"row\" xml:space=\"preserve\" x=\"~0\" y=\"~1\">C @0 @1</text>\n",
-        list,
-        line,
-        &numbers,
-    )
+        plate.cell_line(k),
+        &[plate.row_across(i), plate.row_down(i)],
+    );
 }
 
-fn put_row_row(out: &mut [u8], at: usize, page: Page, list: &[u8], k: usize) -> usize
-    requires in_bounds { InBounds page }
-    requires k_bound { k ≤ 512 }
-    ensures { record { at = result; out = out.new } ≡ emits (row_row page list.now k) (record { at = at; out = out.old }) }
+#[tactic(auto, unfolding(crate::specs::Drawings::row_row))]
+fn put_row_row(pen: &mut Pen, plate: &Plate, k: usize)
+    requires { k ≤ 512 }
+    ensures { Writes (row_row plate.now.page plate.now.list.now k) pen.old pen.new }
 {
-    let i = page.widgets + 1 + page.columns + k;
-    let line = 74 * page.widgets + 34 + 18 * (page.columns + k);
-    let numbers = [row_across(page, i), row_down(page, i)];
-    put_filled(
-        out,
-        at,
+    let i = plate.page.widgets + 1 + plate.page.columns + k;
+    pen.put_filled(
         b"<text class=\"row\" xml:space=\"preserve\" x=\"~0\" y=\"~1\">D @0 @1</text>\n",
-        list,
-        line,
-        &numbers,
-    )
+        plate.cell_line(plate.page.columns + k),
+        &[plate.row_across(i), plate.row_down(i)],
+    );
 }
 
-fn put_one(out: &mut [u8], at: usize, layer: Layer, page: Page, list: &[u8], i: usize) -> usize
-    requires in_bounds { InBounds page }
-    requires i_bound { i ≤ 512 }
-    ensures { record { at = result; out = out.new } ≡ emits (one layer page list.now i) (record { at = at; out = out.old }) }
+// `one` and `each` of RULES 7.10 are over this enum, so no closure stands in its place. By the layer, i counts bands, controls, columns or
+// rows: the bound on it is no fact of one of these.
+#[tactic(auto, unfolding(crate::specs::Drawings::one))]
+fn put_one(pen: &mut Pen, plate: &Plate, layer: Layer, i: usize)
+    requires { i ≤ 512 }
+    ensures { Writes (one layer plate.now.page plate.now.list.now i) pen.old pen.new }
 {
     match layer {
-        Layer::ColumnLines => put_column_lines(out, at, page, list, i),
-        Layer::RowLines => put_row_lines(out, at, page, list, i),
-        Layer::Outlines => put_outlines(out, at, page, list, i),
-        Layer::Windows => put_windows(out, at, page, list, i),
-        Layer::Captions => put_caption(out, at, page, list, i),
-        Layer::Labels => put_labels(out, at, page, list, i),
-        Layer::WidgetRows => put_widget_row(out, at, page, list, i),
-        Layer::ColumnRows => put_column_row(out, at, page, list, i),
-        Layer::RowRows => put_row_row(out, at, page, list, i),
+        Layer::ColumnLines => put_column_lines(pen, plate, i),
+        Layer::RowLines => put_row_lines(pen, plate, i),
+        Layer::Outlines => put_outlines(pen, plate, i),
+        Layer::Windows => put_windows(pen, plate, i),
+        Layer::Captions => put_caption(pen, plate, i),
+        Layer::Labels => put_labels(pen, plate, i),
+        Layer::WidgetRows => put_widget_row(pen, plate, i),
+        Layer::ColumnRows => put_column_row(pen, plate, i),
+        Layer::RowRows => put_row_row(pen, plate, i),
     }
 }
 
 // A layer, for so many lines or bands.
-pub fn put_each(
-    out: &mut [u8],
-    at: usize,
-    layer: Layer,
-    page: Page,
-    list: &[u8],
-    count: usize,
-) -> usize
-    requires in_bounds { InBounds page }
-    requires count_bound { count ≤ 512 }
-    ensures { record { at = result; out = out.new } ≡ emits (each layer page list.now count 0) (record { at = at; out = out.old }) }
+pub fn put_each(pen: &mut Pen, plate: &Plate, layer: Layer, count: usize)
+    requires { count ≤ 512 }
+    ensures { Writes (each layer plate.now.page plate.now.list.now count 0) pen.old pen.new }
 {
-    let mut end = at;
-    let mut i: usize = 0;
-    let mut left = count;
-    while 0 < left {
-        end = put_one(out, end, layer, page, list, i);
-        i += 1;
-        left -= 1;
+    for i in 0..count {
+        put_one(pen, plate, layer, i);
     }
-    end
 }

@@ -1,7 +1,7 @@
-use Rattle.drawing.proofs.Pieces.{emits-append}
 use Rattle.drawing.specs.Drawings.{outlines}
+use Rattle.drawing.proofs.Pens.{after}
 use Rattle.drawing.proofs.elements.put_outlines.Goals as goal
 
 pub returns : goal.returns
 unfolding outlines
-returns c = rw (emits-append, ← c.put_filled-after.ensures) c.put_control.ensures
+returns c = after (rw (c.line.ensures.0, c.line.ensures.1) at c.put_filled.ensures) c.put_control.ensures

@@ -1,12 +1,9 @@
-use Prim.Native.Nat.{◌+◌}
+use Rattle.std.proofs.Common.{◌-◌}
 use Rattle.drawing.specs.Drawings.{each}
-use Rattle.drawing.specs.Pieces.{emits}
-use lib.ListN.{length}
-use mathlib.Core.Path.{◌≡◌}
+use Rattle.drawing.specs.Implementation.Pens.{Writes}
+use Rattle.drawing.specs.declared.writing.Pen.{Pen}
 use Rattle.drawing.proofs.rows.put_each.Given as goal
 
-abbrev pub invariant-loop-left : goal.invariant-loop-left
-invariant-loop-left l = (length l.out ≡ length l.initial.out) × (l.i + l.left ≡ l.count) × (emits (each l.layer l.page l.list l.left l.i) (record { at = l.end; out = l.out }) ≡ emits (each l.layer l.page l.list l.count 0) (record { at = l.at; out = l.initial.out }))
-
-abbrev pub decreases-loop-left : goal.decreases-loop-left
-decreases-loop-left l = l.left
+-- whoever draws the lines to come has drawn all
+abbrev pub invariant-loop-i : goal.invariant-loop-i
+invariant-loop-i l = (q : Pen) → Writes (each l.layer l.plate.page l.plate.list.now (l.count - l.i) l.i) l.pen q → Writes (each l.layer l.plate.page l.plate.list.now l.count 0) l.initial.pen q

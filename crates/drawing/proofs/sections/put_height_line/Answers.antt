@@ -1,7 +1,7 @@
-use Rattle.drawing.proofs.Pieces.{emits-append}
 use Rattle.drawing.specs.Pictures.{height_line}
+use Rattle.drawing.proofs.Pens.{after}
 use Rattle.drawing.proofs.sections.put_height_line.Goals as goal
 
 pub returns : goal.returns
 unfolding height_line
-returns c = rw (← c.px-w.ensures.0, ← c.px-h.ensures.0, emits-append, ← c.put_filled-line.ensures, emits-append, ← c.put_points-words.ensures) c.put_filled.ensures
+returns c = rw (← c.px-w.ensures.0, ← c.px-h.ensures.0) (after c.put_numbers.ensures (after c.put_points.ensures c.put_numbers-2.ensures))

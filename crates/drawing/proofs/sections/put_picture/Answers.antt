@@ -1,7 +1,7 @@
-use Rattle.drawing.proofs.Pieces.{emits-append}
 use Rattle.drawing.specs.Pictures.{picture}
+use Rattle.drawing.proofs.Pens.{after}
 use Rattle.drawing.proofs.sections.put_picture.Goals as goal
 
 pub returns : goal.returns
 unfolding picture
-returns c = rw (emits-append, ← c.put_shapes-plate.ensures, emits-append, ← c.put_each-bands.ensures, emits-append, ← c.put_dimensions-sizes.ensures, emits-append, ← c.put_each-labels.ensures) c.put_scale.ensures
+returns c = after c.put_shapes.ensures (after c.put_each.ensures (after c.put_dimensions.ensures (after c.put_each-2.ensures c.put_scale.ensures)))

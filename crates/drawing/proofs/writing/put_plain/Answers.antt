@@ -1,7 +1,0 @@
-use Rattle.text.proofs.Signs.{Same}
-use Rattle.drawing.proofs.Pieces.{text-over}
-use borrow.Author.Rules.{rules}
-use Rattle.drawing.proofs.writing.put_plain.Goals as goal
-
-pub returns : goal.returns
-returns c = let e : Same c.args.z = search rules in rw (text-over _ _ _ c.requires (rw e at c.write_field.ensures)) at c.put_inked.ensures

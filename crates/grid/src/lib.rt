@@ -35,7 +35,7 @@ pub struct GridLayout {
     pub curr_state: Memory,
     pub initial_available: Rect,
     pub sizing_pass: bool,
-    // 0: not named.
+    // 0: not named. The rules take every number as it is (RULES 3.8).
     pub num_columns: usize,
     pub spacing: Vec2,
     pub min_cell_size: Vec2,

@@ -74,7 +74,8 @@ impl Memory {
 }
 
 impl GridLayout {
-    // `known` says whether `memory` is there; `num_columns` is 0 where it is not named.
+    // `known` says whether `memory` is there: C gives them apart, and a pass hands the memory back, known or not (RULES 8.19). `num_columns` is
+    // 0 where it is not named.
     pub fn new(
         main_dir: Direction,
         region: Region,

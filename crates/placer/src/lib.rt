@@ -17,7 +17,8 @@ pub mod rules;
 
 #[derive(Clone, Copy)]
 pub struct Placer {
-    // Whether there is a grid, which then takes precedence over the layout.
+    // Whether there is a grid, which then takes precedence over the layout. No Option: `grid` and a refused `save_grid` answer what stands
+    // here without one too (RULES 8.17).
     pub has_grid: bool,
     pub grid: GridLayout,
     pub layout: Layout,

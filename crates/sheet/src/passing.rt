@@ -15,57 +15,11 @@ use crate::outcomes::{finish, grid_set, refused};
 use crate::walk::run;
 use emath::Vec2;
 use grid::Memory;
-use grid::memories::{heights_of, widths_of};
 use placer::Placer;
 use placer::lent::{settings, state};
 use records::headings::read_heading;
 use records::sheets::check_caching;
-use records::{CACHE_LEN, Heading, MAX_RECORDS, SizeUnit};
-
-// The records from place `from` on, the first being record `first`, on a placer without a fault.
-fn walk_from(
-    placer: Placer,
-    text: &[u8],
-    unit: SizeUnit,
-    sizes: &[f32],
-    from: usize,
-    first: usize,
-    most: usize,
-    spacing: Vec2,
-    grid: bool,
-    memory: Memory,
-    out: &mut [i32],
-) -> Passed
-    requires placer_value { placer_fault placer ≡ 0 }
-    requires from_in_bounds { (from ≤ length text.now) × (first + most ≤ 513) }
-    requires only_steps { OnlySteps (records_from unit most (drop from text.now)) × (8 * widgets (records_from unit most (drop from text.now)) ≤ length out.old) × (length sizes.now ≡ 1026) × AreCached unit most (drop from text.now) sizes.now first }
-    ensures { Answers grid memory (run_from tick spacing first placer (steps_of (records_from unit most (drop from text.now)))) out.old (passed_outcome result) out.new }
-{
-    let g = placer.grid;
-    let prev = g.prev_state;
-    let prev_widths = widths_of(prev);
-    let prev_heights = heights_of(prev);
-    let mut widths = widths_of(g.curr_state);
-    let mut heights = heights_of(g.curr_state);
-    let b = settings(placer);
-    let r = run(
-        text,
-        unit,
-        sizes,
-        from,
-        first,
-        most,
-        b,
-        state(placer),
-        &prev_widths,
-        &prev_heights,
-        &mut widths,
-        &mut heights,
-        spacing,
-        out,
-    );
-    finish(grid, memory, b, r, prev, widths, heights)
-}
+use records::{CACHE_LEN, Heading, MAX_RECORDS};
 
 // The steps after the heading, on the placer that it gave.
 fn go_on(
@@ -80,20 +34,27 @@ fn go_on(
     requires room { Room heading text.now (length out.old) sizes.now }
     ensures { Answers heading.has_grid memory (run_from tick heading.spacing (heading.records + 1) placer (steps_of (records_after heading text.now))) out.old (passed_outcome result) out.new }
 {
-    let unit = heading.unit;
-    walk_from(
-        placer,
+    let prev = placer.grid.prev_state;
+    let mut widths = placer.grid.curr_state.col_widths;
+    let mut heights = placer.grid.curr_state.row_heights;
+    let b = settings(placer);
+    let r = run(
         text,
-        unit,
+        heading.unit,
         sizes,
         heading.next,
         heading.records + 1,
         MAX_RECORDS - heading.records,
+        b,
+        state(placer),
+        &prev.col_widths,
+        &prev.row_heights,
+        &mut widths,
+        &mut heights,
         heading.spacing,
-        heading.has_grid,
-        memory,
         out,
-    )
+    );
+    finish(heading.has_grid, memory, b, r, prev, widths, heights)
 }
 
 // G, the heading's last record, and the steps.
@@ -183,7 +144,8 @@ pub fn pass_caching(
     }
 }
 
-// RULES 6.12: one pass over the text, with the memory where it is known, sizing or not. W that are laid out have their places in the slice,
+// RULES 6.12: one pass over the text, with the memory where it is known, sizing or not; no Option of it, since a refused pass hands back the
+// memory it was given, known or not (RULES 8.19). W that are laid out have their places in the slice,
 // which is otherwise as it was.
 pub fn pass(text: &[u8], known: bool, memory: Memory, sizing: bool, out: &mut [i32]) -> Passed
     ensures { Called text.now known memory sizing out.old (passed_outcome result) out.new }

@@ -53,10 +53,7 @@ pub fn length_fault(x: f32) -> Option<Refusal>
 pub fn extent_fault(x: f32) -> Option<Refusal>
     ensures { fault_number result ≡ extent_fault x }
 {
-    first_of(
-        length_fault(x),
-        (x < 0.0).then_some(Refusal::Negative),
-    )
+    first_of(length_fault(x), (x < 0.0).then_some(Refusal::Negative))
 }
 
 pub fn pair_fault(x: f32, y: f32) -> Option<Refusal>

@@ -3,7 +3,7 @@ ghost use Rattle.std.specs.Prelude.{◌≡◌};
 ghost use Rattle.layout.specs.Rules.{initial_cursor, from_cursor, not_negative, not_negative_rect, available_from_cursor_max_rect, available_rect_before_wrap, available_size};
 
 use crate::Layout;
-use emath::num::{fast_midpoint, infinity, max, min};
+use emath::num::{fast_midpoint, max, min};
 use emath::{Rangef, Rect, Vec2};
 use region::{Direction, Region};
 
@@ -13,16 +13,16 @@ pub fn initial_cursor(main_dir: Direction, max_rect: Rect) -> Rect
     let mut cursor = max_rect;
     match main_dir {
         Direction::LeftToRight => {
-            cursor.right = infinity();
+            cursor.right = f32::INFINITY;
         }
         Direction::RightToLeft => {
-            cursor.left = -infinity();
+            cursor.left = f32::NEG_INFINITY;
         }
         Direction::TopDown => {
-            cursor.bottom = infinity();
+            cursor.bottom = f32::INFINITY;
         }
         Direction::BottomUp => {
-            cursor.top = -infinity();
+            cursor.top = f32::NEG_INFINITY;
         }
     }
     cursor
@@ -103,9 +103,8 @@ pub fn available_rect_before_wrap(main_dir: Direction, region: Region) -> Rect
 pub fn available_size(layout: Layout, region: Region) -> Vec2
     ensures { result ≡ available_size layout region }
 {
-    let d = layout.main_dir;
     if layout.main_wrap {
-        if d.is_horizontal() {
+        if layout.is_horizontal() {
             return Vec2 {
                 x: region.max_rect.width(),
                 y: region.cursor.height(),
@@ -116,5 +115,5 @@ pub fn available_size(layout: Layout, region: Region) -> Vec2
             y: region.max_rect.height(),
         };
     }
-    available_rect_before_wrap(d, region).size()
+    available_rect_before_wrap(layout.main_dir, region).size()
 }

@@ -39,7 +39,8 @@ fn beyond(are_finite: bool) -> Refusal
     }
 }
 
-// What is within the limit is finite: here and below most calls end at the first test.
+// What is within the limit is finite: here and below most calls end at the first test, so the second is not worked out before it. A closure
+// for it would be no shorter.
 pub fn length_fault(x: f32) -> Option<Refusal>
     ensures { fault_number result ≡ length_fault x }
 {

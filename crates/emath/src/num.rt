@@ -1,5 +1,5 @@
-// Two numbers: min, max, at_least, at_most and fast_midpoint (RULES 1.3, 1.6). Not std's min and max, of which the zero's sign and
-// which of two equal numbers they answer isn't promised.
+// Two numbers: min, max, at_least, at_most and fast_midpoint (RULES 1.3, 1.6). Not std's min and max,
+// which promise neither which of two equal numbers they answer nor a zero's sign.
 ghost use Rattle.std.specs.Prelude.{◌≡◌};
 ghost use Rattle.emath.specs.Rectangles.{min_f, max_f, at_least, at_most, midpoint, is_infinite};
 

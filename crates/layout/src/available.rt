@@ -10,22 +10,24 @@ use region::{Direction, Region};
 pub fn initial_cursor(main_dir: Direction, max_rect: Rect) -> Rect
     ensures { result ≡ initial_cursor main_dir max_rect }
 {
-    let mut cursor = max_rect;
     match main_dir {
-        Direction::LeftToRight => {
-            cursor.right = f32::INFINITY;
-        }
-        Direction::RightToLeft => {
-            cursor.left = f32::NEG_INFINITY;
-        }
-        Direction::TopDown => {
-            cursor.bottom = f32::INFINITY;
-        }
-        Direction::BottomUp => {
-            cursor.top = f32::NEG_INFINITY;
-        }
+        Direction::LeftToRight => Rect {
+            right: f32::INFINITY,
+            ..max_rect
+        },
+        Direction::RightToLeft => Rect {
+            left: f32::NEG_INFINITY,
+            ..max_rect
+        },
+        Direction::TopDown => Rect {
+            bottom: f32::INFINITY,
+            ..max_rect
+        },
+        Direction::BottomUp => Rect {
+            top: f32::NEG_INFINITY,
+            ..max_rect
+        },
     }
-    cursor
 }
 
 // max_rect from the cursor on, not inside out.

@@ -107,22 +107,24 @@ fn row_for(layout: Layout, cursor: Rect, frame: Rect) -> Rect
 fn past_widget(main_dir: Direction, cursor: Rect, widget: Rect, spacing: Vec2) -> Rect
     ensures { result ≡ past_widget main_dir cursor widget spacing }
 {
-    let mut c = cursor;
     match main_dir {
-        Direction::LeftToRight => {
-            c.left = widget.right + spacing.x;
-        }
-        Direction::RightToLeft => {
-            c.right = widget.left - spacing.x;
-        }
-        Direction::TopDown => {
-            c.top = widget.bottom + spacing.y;
-        }
-        Direction::BottomUp => {
-            c.bottom = widget.top - spacing.y;
-        }
+        Direction::LeftToRight => Rect {
+            left: widget.right + spacing.x,
+            ..cursor
+        },
+        Direction::RightToLeft => Rect {
+            right: widget.left - spacing.x,
+            ..cursor
+        },
+        Direction::TopDown => Rect {
+            top: widget.bottom + spacing.y,
+            ..cursor
+        },
+        Direction::BottomUp => Rect {
+            bottom: widget.top - spacing.y,
+            ..cursor
+        },
     }
-    c
 }
 
 pub fn advance_after_rects(

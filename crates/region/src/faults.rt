@@ -18,22 +18,24 @@ pub fn zero_if_open(outward: f32, edge: f32) -> f32
 fn closed_cursor(main_dir: Direction, cursor: Rect) -> Rect
     ensures { result ≡ closed main_dir cursor }
 {
-    let mut c = cursor;
     match main_dir {
-        Direction::LeftToRight => {
-            c.right = zero_if_open(f32::INFINITY, c.right);
-        }
-        Direction::RightToLeft => {
-            c.left = zero_if_open(f32::NEG_INFINITY, c.left);
-        }
-        Direction::TopDown => {
-            c.bottom = zero_if_open(f32::INFINITY, c.bottom);
-        }
-        Direction::BottomUp => {
-            c.top = zero_if_open(f32::NEG_INFINITY, c.top);
-        }
+        Direction::LeftToRight => Rect {
+            right: zero_if_open(f32::INFINITY, cursor.right),
+            ..cursor
+        },
+        Direction::RightToLeft => Rect {
+            left: zero_if_open(f32::NEG_INFINITY, cursor.left),
+            ..cursor
+        },
+        Direction::TopDown => Rect {
+            bottom: zero_if_open(f32::INFINITY, cursor.bottom),
+            ..cursor
+        },
+        Direction::BottomUp => Rect {
+            top: zero_if_open(f32::NEG_INFINITY, cursor.top),
+            ..cursor
+        },
     }
-    c
 }
 
 pub fn cursor_fault(main_dir: Direction, cursor: Rect) -> Option<Refusal>

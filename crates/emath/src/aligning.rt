@@ -42,11 +42,7 @@ impl Align {
 fn fills(low: f32, high: f32, size: f32) -> bool
     ensures { result ≡ is_infinite size && is_infinite (sub binary32 high low) }
 {
-    if is_infinite(size) {
-        is_infinite(high - low)
-    } else {
-        false
-    }
+    is_infinite(size) && is_infinite(high - low)
 }
 
 fn centred_in(low: f32, high: f32, size: f32) -> Rangef
@@ -54,13 +50,13 @@ fn centred_in(low: f32, high: f32, size: f32) -> Rangef
 {
     if is_infinite(size) {
         return Rangef {
-            min: -1.0 / 0.0,
-            max: 1.0 / 0.0,
+            min: f32::NEG_INFINITY,
+            max: f32::INFINITY,
         };
     }
     let min = (low + high) / 2.0 - size / 2.0;
     Rangef {
-        min: min,
+        min,
         max: min + size,
     }
 }
@@ -74,30 +70,26 @@ impl Align2 {
     pub fn with_x(self, x: Align) -> Align2
         ensures { result ≡ with_x self x }
     {
-        let y = self.y;
-        Align2 { x: x, y: y }
+        Align2 { x, ..self }
     }
 
     pub fn with_y(self, y: Align) -> Align2
         ensures { result ≡ with_y self y }
     {
-        let x = self.x;
-        Align2 { x: x, y: y }
+        Align2 { y, ..self }
     }
 
     pub fn align_size_within_rect(self, size: Vec2, frame: Rect) -> Rect
         ensures { result ≡ align_within self size frame }
     {
-        let h = self.x;
-        let v = self.y;
-        let x_range = h.align_size_within_range(
+        let x_range = self.x.align_size_within_range(
             size.x,
             Rangef {
                 min: frame.left,
                 max: frame.right,
             },
         );
-        let y_range = v.align_size_within_range(
+        let y_range = self.y.align_size_within_range(
             size.y,
             Rangef {
                 min: frame.top,

@@ -1,4 +1,4 @@
-// The tests of the domain (RULES 5).
+// The tests of the domain (RULES 5). Pairs and rectangles name each number: a closure for the test would take more lines than it saves.
 ghost use Rattle.std.specs.Prelude.{◌≡◌};
 ghost use Rattle.emath.specs.Domain.{finite, within, both_of, edges_of, negative, inside_out};
 

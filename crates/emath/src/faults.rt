@@ -39,7 +39,8 @@ fn beyond(are_finite: bool) -> Refusal
     }
 }
 
-// What is within the limit is finite: here and below most calls end at the first test.
+// What is within the limit is finite: here and below most calls end at the first test, so the second is not worked out before it. A closure
+// for it would be no shorter.
 pub fn length_fault(x: f32) -> Option<Refusal>
     ensures { fault_number result ≡ length_fault x }
 {
@@ -53,10 +54,7 @@ pub fn length_fault(x: f32) -> Option<Refusal>
 pub fn extent_fault(x: f32) -> Option<Refusal>
     ensures { fault_number result ≡ extent_fault x }
 {
-    first_of(
-        length_fault(x),
-        (x < 0.0).then_some(Refusal::Negative),
-    )
+    first_of(length_fault(x), (x < 0.0).then_some(Refusal::Negative))
 }
 
 pub fn pair_fault(x: f32, y: f32) -> Option<Refusal>

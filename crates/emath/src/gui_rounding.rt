@@ -25,20 +25,16 @@ fn near(y: f32) -> f32
 fn near_any(y: f32) -> f32
     ensures { result ≡ round_f y }
 {
-    if y < 8388608.0 {
-        if -8388608.0 < y {
-            if 0.0 < y {
-                near(y)
-            } else if y < 0.0 {
-                0.0 - near(-y)
-            } else {
-                0.0
-            }
-        } else {
-            y
-        }
-    } else {
+    if !(y < 8388608.0) {
         y
+    } else if !(-8388608.0 < y) {
+        y
+    } else if 0.0 < y {
+        near(y)
+    } else if y < 0.0 {
+        0.0 - near(-y)
+    } else {
+        0.0
     }
 }
 

@@ -10,6 +10,7 @@ pub mod num;
 mod rects;
 pub mod unions;
 
+// A size or a shift, and a place: two types, as in egui, though their fields are the same.
 #[derive(Clone, Copy)]
 pub struct Vec2 {
     pub x: f32,
@@ -38,7 +39,7 @@ pub struct Rangef {
     pub max: f32,
 }
 
-#[derive(Clone, Copy)]
+#[derive(Clone, Copy, PartialEq, Eq)]
 pub enum Align {
     Min,
     Center,

@@ -6,7 +6,6 @@ ghost use Rattle.grid.specs.Refusals.{memory_fault, max_cell_fault, grid_fault, 
 use crate::entries::{counted, entries_fault};
 use crate::{GridLayout, MAX_COLS, MAX_ROWS, Memory, Moved};
 use emath::faults::{edges_fault, first_of, pair_fault, size_fault};
-use emath::num::infinity;
 use emath::{Refusal, Vec2};
 use region::Direction;
 use region::faults::{cursor_fault, zero_if_open};
@@ -31,10 +30,9 @@ pub fn memory_fault(memory: Memory) -> Option<Refusal>
 pub fn max_cell_fault(v: Vec2) -> Option<Refusal>
     ensures { fault_number result ≡ max_cell_fault v }
 {
-    let far = infinity();
     size_fault(Vec2 {
-        x: zero_if_open(far, v.x),
-        y: zero_if_open(far, v.y),
+        x: zero_if_open(f32::INFINITY, v.x),
+        y: zero_if_open(f32::INFINITY, v.y),
     })
 }
 

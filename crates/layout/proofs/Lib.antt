@@ -4,3 +4,4 @@ pub mod WholeFrames
 pub mod WholeCursors
 pub mod Seeds
 pub mod Strips
+mod Variants

@@ -3,29 +3,31 @@ ghost use Rattle.std.specs.Prelude.{◌≡◌};
 ghost use Rattle.layout.specs.Rules.{initial_cursor, from_cursor, not_negative, not_negative_rect, available_from_cursor_max_rect, available_rect_before_wrap, available_size};
 
 use crate::Layout;
-use emath::num::{fast_midpoint, infinity, max, min};
+use emath::num::{fast_midpoint, max, min};
 use emath::{Rangef, Rect, Vec2};
 use region::{Direction, Region};
 
 pub fn initial_cursor(main_dir: Direction, max_rect: Rect) -> Rect
     ensures { result ≡ initial_cursor main_dir max_rect }
 {
-    let mut cursor = max_rect;
     match main_dir {
-        Direction::LeftToRight => {
-            cursor.right = infinity();
-        }
-        Direction::RightToLeft => {
-            cursor.left = -infinity();
-        }
-        Direction::TopDown => {
-            cursor.bottom = infinity();
-        }
-        Direction::BottomUp => {
-            cursor.top = -infinity();
-        }
+        Direction::LeftToRight => Rect {
+            right: f32::INFINITY,
+            ..max_rect
+        },
+        Direction::RightToLeft => Rect {
+            left: f32::NEG_INFINITY,
+            ..max_rect
+        },
+        Direction::TopDown => Rect {
+            bottom: f32::INFINITY,
+            ..max_rect
+        },
+        Direction::BottomUp => Rect {
+            top: f32::NEG_INFINITY,
+            ..max_rect
+        },
     }
-    cursor
 }
 
 // max_rect from the cursor on, not inside out.
@@ -103,9 +105,8 @@ pub fn available_rect_before_wrap(main_dir: Direction, region: Region) -> Rect
 pub fn available_size(layout: Layout, region: Region) -> Vec2
     ensures { result ≡ available_size layout region }
 {
-    let d = layout.main_dir;
     if layout.main_wrap {
-        if d.is_horizontal() {
+        if layout.is_horizontal() {
             return Vec2 {
                 x: region.max_rect.width(),
                 y: region.cursor.height(),
@@ -116,5 +117,5 @@ pub fn available_size(layout: Layout, region: Region) -> Vec2
             y: region.max_rect.height(),
         };
     }
-    available_rect_before_wrap(d, region).size()
+    available_rect_before_wrap(layout.main_dir, region).size()
 }

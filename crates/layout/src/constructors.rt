@@ -18,40 +18,19 @@ impl Layout {
     pub fn left_to_right(valign: Align) -> Layout
         ensures { result ≡ plain LeftToRight valign }
     {
-        Layout {
-            main_dir: Direction::LeftToRight,
-            main_wrap: false,
-            main_align: Align::Center,
-            main_justify: false,
-            cross_align: valign,
-            cross_justify: false,
-        }
+        Layout::from_main_dir_and_cross_align(Direction::LeftToRight, valign)
     }
 
     pub fn right_to_left(valign: Align) -> Layout
         ensures { result ≡ plain RightToLeft valign }
     {
-        Layout {
-            main_dir: Direction::RightToLeft,
-            main_wrap: false,
-            main_align: Align::Center,
-            main_justify: false,
-            cross_align: valign,
-            cross_justify: false,
-        }
+        Layout::from_main_dir_and_cross_align(Direction::RightToLeft, valign)
     }
 
     pub fn top_down(halign: Align) -> Layout
         ensures { result ≡ plain TopDown halign }
     {
-        Layout {
-            main_dir: Direction::TopDown,
-            main_wrap: false,
-            main_align: Align::Center,
-            main_justify: false,
-            cross_align: halign,
-            cross_justify: false,
-        }
+        Layout::from_main_dir_and_cross_align(Direction::TopDown, halign)
     }
 
     pub fn top_down_justified(halign: Align) -> Layout
@@ -63,25 +42,18 @@ impl Layout {
     pub fn bottom_up(halign: Align) -> Layout
         ensures { result ≡ plain BottomUp halign }
     {
-        Layout {
-            main_dir: Direction::BottomUp,
-            main_wrap: false,
-            main_align: Align::Center,
-            main_justify: false,
-            cross_align: halign,
-            cross_justify: false,
-        }
+        Layout::from_main_dir_and_cross_align(Direction::BottomUp, halign)
     }
 
     pub fn from_main_dir_and_cross_align(main_dir: Direction, cross_align: Align) -> Layout
         ensures { result ≡ plain main_dir cross_align }
     {
         Layout {
-            main_dir: main_dir,
+            main_dir,
             main_wrap: false,
             main_align: Align::Center,
             main_justify: false,
-            cross_align: cross_align,
+            cross_align,
             cross_justify: false,
         }
     }
@@ -90,38 +62,29 @@ impl Layout {
         ensures { result ≡ centered_and_justified main_dir }
     {
         Layout {
-            main_dir: main_dir,
-            main_wrap: false,
-            main_align: Align::Center,
             main_justify: true,
-            cross_align: Align::Center,
             cross_justify: true,
+            ..Layout::from_main_dir_and_cross_align(main_dir, Align::Center)
         }
     }
 
     pub fn with_main_wrap(self, main_wrap: bool) -> Layout
         ensures { result ≡ with_main_wrap self main_wrap }
     {
-        Layout {
-            main_wrap: main_wrap,
-            ..self
-        }
+        Layout { main_wrap, ..self }
     }
 
     pub fn with_main_align(self, main_align: Align) -> Layout
         ensures { result ≡ with_main_align self main_align }
     {
-        Layout {
-            main_align: main_align,
-            ..self
-        }
+        Layout { main_align, ..self }
     }
 
     pub fn with_cross_align(self, cross_align: Align) -> Layout
         ensures { result ≡ with_cross_align self cross_align }
     {
         Layout {
-            cross_align: cross_align,
+            cross_align,
             ..self
         }
     }
@@ -130,7 +93,7 @@ impl Layout {
         ensures { result ≡ with_main_justify self main_justify }
     {
         Layout {
-            main_justify: main_justify,
+            main_justify,
             ..self
         }
     }
@@ -139,7 +102,7 @@ impl Layout {
         ensures { result ≡ with_cross_justify self cross_justify }
     {
         Layout {
-            cross_justify: cross_justify,
+            cross_justify,
             ..self
         }
     }

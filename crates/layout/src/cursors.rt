@@ -3,7 +3,7 @@ ghost use Rattle.std.specs.Prelude.{◌≡◌};
 ghost use Rattle.layout.specs.Rules.{advance_cursor, row_started, stays_in_row, grown_across, row_for, past_widget, advance_after_rects, next_row, end_row, set_row_height};
 
 use crate::Layout;
-use emath::num::{infinity, max, min, nan};
+use emath::num::{max, min};
 use emath::{Rect, Vec2};
 use region::regions::{expand_to_include_x, expand_to_include_y, with_cursor};
 use region::{Direction, Region};
@@ -40,17 +40,16 @@ pub fn advance_cursor(main_dir: Direction, region: Region, amount: f32) -> Regio
 fn row_started(main_dir: Direction, frame: Rect) -> Rect
     ensures { result ≡ row_started main_dir frame }
 {
-    let far = infinity();
-    let unset = nan();
+    let unset = f32::NAN;
     match main_dir {
         Direction::LeftToRight => Rect {
             left: unset,
             top: frame.top,
-            right: far,
+            right: f32::INFINITY,
             bottom: frame.bottom,
         },
         Direction::RightToLeft => Rect {
-            left: -far,
+            left: f32::NEG_INFINITY,
             top: frame.top,
             right: unset,
             bottom: frame.bottom,
@@ -59,11 +58,11 @@ fn row_started(main_dir: Direction, frame: Rect) -> Rect
             left: frame.left,
             top: unset,
             right: frame.right,
-            bottom: far,
+            bottom: f32::INFINITY,
         },
         Direction::BottomUp => Rect {
             left: frame.left,
-            top: -far,
+            top: f32::NEG_INFINITY,
             right: frame.right,
             bottom: unset,
         },
@@ -94,37 +93,38 @@ fn grown_across(horizontal: bool, cursor: Rect, frame: Rect) -> Rect
 fn row_for(layout: Layout, cursor: Rect, frame: Rect) -> Rect
     ensures { result ≡ row_for layout cursor frame }
 {
-    let d = layout.main_dir;
     if layout.main_wrap {
         if stays_in_row(cursor, frame) {
             cursor.union(frame)
         } else {
-            row_started(d, frame)
+            row_started(layout.main_dir, frame)
         }
     } else {
-        grown_across(d.is_horizontal(), cursor, frame)
+        grown_across(layout.is_horizontal(), cursor, frame)
     }
 }
 
 fn past_widget(main_dir: Direction, cursor: Rect, widget: Rect, spacing: Vec2) -> Rect
     ensures { result ≡ past_widget main_dir cursor widget spacing }
 {
-    let mut c = cursor;
     match main_dir {
-        Direction::LeftToRight => {
-            c.left = widget.right + spacing.x;
-        }
-        Direction::RightToLeft => {
-            c.right = widget.left - spacing.x;
-        }
-        Direction::TopDown => {
-            c.top = widget.bottom + spacing.y;
-        }
-        Direction::BottomUp => {
-            c.bottom = widget.top - spacing.y;
-        }
+        Direction::LeftToRight => Rect {
+            left: widget.right + spacing.x,
+            ..cursor
+        },
+        Direction::RightToLeft => Rect {
+            right: widget.left - spacing.x,
+            ..cursor
+        },
+        Direction::TopDown => Rect {
+            top: widget.bottom + spacing.y,
+            ..cursor
+        },
+        Direction::BottomUp => Rect {
+            bottom: widget.top - spacing.y,
+            ..cursor
+        },
     }
-    c
 }
 
 pub fn advance_after_rects(
@@ -136,8 +136,12 @@ pub fn advance_after_rects(
 ) -> Rect
     ensures { result ≡ advance_after_rects layout cursor frame widget spacing }
 {
-    let d = layout.main_dir;
-    past_widget(d, row_for(layout, cursor, frame), widget, spacing)
+    past_widget(
+        layout.main_dir,
+        row_for(layout, cursor, frame),
+        widget,
+        spacing,
+    )
 }
 
 fn next_row(main_dir: Direction, region: Region, spacing: Vec2) -> Region
@@ -145,37 +149,34 @@ fn next_row(main_dir: Direction, region: Region, spacing: Vec2) -> Region
 {
     let m = region.max_rect;
     let new_top = region.cursor.bottom + spacing.y;
-    let far = infinity();
     match main_dir {
         Direction::LeftToRight => {
             let c = Rect {
                 left: m.left,
                 top: new_top,
-                right: far,
+                right: f32::INFINITY,
                 bottom: new_top,
             };
             with_cursor(region, c)
         }
         Direction::RightToLeft => {
             let c = Rect {
-                left: -far,
+                left: f32::NEG_INFINITY,
                 top: new_top,
                 right: m.right,
                 bottom: new_top,
             };
             with_cursor(region, c)
         }
-        Direction::TopDown => region,
-        Direction::BottomUp => region,
+        Direction::TopDown | Direction::BottomUp => region,
     }
 }
 
 pub fn end_row(layout: Layout, region: Region, spacing: Vec2) -> Region
     ensures { result ≡ end_row layout region spacing }
 {
-    let d = layout.main_dir;
     if layout.main_wrap {
-        next_row(d, region, spacing)
+        next_row(layout.main_dir, region, spacing)
     } else {
         region
     }

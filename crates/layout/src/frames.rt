@@ -5,8 +5,7 @@ ghost use Rattle.layout.specs.Rules.{overflows, new_row, new_column, new_cursor,
 
 use crate::Layout;
 use crate::available::available_rect_before_wrap;
-use crate::inspectors::is_center;
-use emath::num::{infinity, max};
+use emath::num::max;
 use emath::{Align, Align2, Rangef, Rect, Vec2};
 use region::{Direction, Region};
 
@@ -56,16 +55,15 @@ fn new_cursor(main_dir: Direction, region: Region, child_size: Vec2, spacing: Ve
     let m = region.max_rect;
     let row = new_row(region, child_size, spacing);
     let column = new_column(region, child_size, spacing);
-    let far = infinity();
     match main_dir {
         Direction::LeftToRight => Rect {
             left: m.left,
             top: row.min,
-            right: far,
+            right: f32::INFINITY,
             bottom: row.max,
         },
         Direction::RightToLeft => Rect {
-            left: -far,
+            left: f32::NEG_INFINITY,
             top: row.min,
             right: m.right,
             bottom: row.max,
@@ -74,11 +72,11 @@ fn new_cursor(main_dir: Direction, region: Region, child_size: Vec2, spacing: Ve
             left: column.min,
             top: m.top,
             right: column.max,
-            bottom: far,
+            bottom: f32::INFINITY,
         },
         Direction::BottomUp => Rect {
             left: column.min,
-            top: -far,
+            top: f32::NEG_INFINITY,
             right: column.max,
             bottom: m.bottom,
         },
@@ -102,28 +100,27 @@ fn new_region(main_dir: Direction, region: Region, child_size: Vec2, spacing: Ve
     ensures { result ≡ new_region main_dir region child_size spacing }
 {
     let cursor = new_cursor(main_dir, region, child_size, spacing);
-    let mut g = region;
-    g.max_rect = reaching_to(main_dir.is_horizontal(), region.max_rect, cursor);
-    g.cursor = cursor;
-    g
+    Region {
+        max_rect: reaching_to(main_dir.is_horizontal(), region.max_rect, cursor),
+        cursor,
+        ..region
+    }
 }
 
 // The child is too long for what is left, in a layout that wraps.
 fn is_wrapping(layout: Layout, available: Rect, region: Region, child_size: Vec2) -> bool
     ensures { result ≡ layout.main_wrap && overflows layout.main_dir available region child_size }
 {
-    let d = layout.main_dir;
-    layout.main_wrap & overflows_main(d, available, region, child_size)
+    layout.main_wrap & overflows_main(layout.main_dir, available, region, child_size)
 }
 
 // What is left is worked out once, where nothing wraps.
 pub fn next_frame(layout: Layout, region: Region, child_size: Vec2, spacing: Vec2) -> Rect
     ensures { result ≡ next_frame tick layout region child_size spacing }
 {
-    let d = layout.main_dir;
-    let available = available_rect_before_wrap(d, region);
+    let available = available_rect_before_wrap(layout.main_dir, region);
     if is_wrapping(layout, available, region, child_size) {
-        let g = new_region(d, region, child_size, spacing);
+        let g = new_region(layout.main_dir, region, child_size, spacing);
         next_frame_ignore_wrap(layout, g, child_size)
     } else {
         frame_rect(layout, region.cursor, available, child_size).round_ui()
@@ -133,13 +130,15 @@ pub fn next_frame(layout: Layout, region: Region, child_size: Vec2, spacing: Vec
 fn fills_width(layout: Layout) -> bool
     ensures { result ≡ fills_width layout }
 {
-    (layout.is_vertical() & is_center(layout.horizontal_align())) | layout.horizontal_justify()
+    (layout.is_vertical() & (layout.horizontal_align() == Align::Center))
+        | layout.horizontal_justify()
 }
 
 fn fills_height(layout: Layout) -> bool
     ensures { result ≡ fills_height layout }
 {
-    (layout.is_horizontal() & is_center(layout.vertical_align())) | layout.vertical_justify()
+    (layout.is_horizontal() & (layout.vertical_align() == Align::Center))
+        | layout.vertical_justify()
 }
 
 // With wrap, the current column's width and not the layout's.
@@ -198,20 +197,18 @@ fn moved_down(horizontal: bool, frame: Rect, cursor: Rect) -> Rect
 fn frame_rect(layout: Layout, cursor: Rect, available: Rect, child_size: Vec2) -> Rect
     ensures { result ≡ frame_rect layout cursor available child_size }
 {
-    let d = layout.main_dir;
     let frame_size = Vec2 {
         x: frame_width(layout, cursor, available, child_size.x),
         y: frame_height(layout, cursor, available, child_size.y),
     };
-    let align2 = frame_align2(d, layout.align2());
+    let align2 = frame_align2(layout.main_dir, layout.align2());
     let frame = align2.align_size_within_rect(frame_size, available);
-    moved_down(d.is_horizontal(), frame, cursor)
+    moved_down(layout.is_horizontal(), frame, cursor)
 }
 
 pub fn next_frame_ignore_wrap(layout: Layout, region: Region, child_size: Vec2) -> Rect
     ensures { result ≡ next_frame_ignore_wrap tick layout region child_size }
 {
-    let d = layout.main_dir;
-    let available = available_rect_before_wrap(d, region);
+    let available = available_rect_before_wrap(layout.main_dir, region);
     frame_rect(layout, region.cursor, available, child_size).round_ui()
 }

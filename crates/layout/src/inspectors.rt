@@ -1,49 +1,17 @@
 // What a Layout says of itself.
 ghost use Rattle.std.specs.Prelude.{◌≡◌, not};
 ghost use Rattle.region.specs.Directions.{is_horizontal};
-ghost use Rattle.layout.specs.Layouts.{is_center, is_max, is_right_to_left, prefer_right_to_left, horizontal_placement, horizontal_align, vertical_align, align2, horizontal_justify, vertical_justify};
+ghost use Rattle.layout.specs.Layouts.{prefer_right_to_left, horizontal_placement, horizontal_align, vertical_align, align2, horizontal_justify, vertical_justify};
 
 use crate::Layout;
 use emath::{Align, Align2};
 use region::Direction;
 
-fn is_right_to_left(d: Direction) -> bool
-    ensures { result ≡ is_right_to_left d }
-{
-    match d {
-        Direction::LeftToRight => false,
-        Direction::RightToLeft => true,
-        Direction::TopDown => false,
-        Direction::BottomUp => false,
-    }
-}
-
-pub fn is_center(a: Align) -> bool
-    ensures { result ≡ is_center a }
-{
-    match a {
-        Align::Min => false,
-        Align::Center => true,
-        Align::Max => false,
-    }
-}
-
-fn is_max(a: Align) -> bool
-    ensures { result ≡ is_max a }
-{
-    match a {
-        Align::Min => false,
-        Align::Center => false,
-        Align::Max => true,
-    }
-}
-
 impl Layout {
     pub fn main_dir(self) -> Direction
         ensures { result ≡ self.main_dir }
     {
-        let d = self.main_dir;
-        d
+        self.main_dir
     }
 
     pub fn main_wrap(self) -> bool
@@ -55,8 +23,7 @@ impl Layout {
     pub fn cross_align(self) -> Align
         ensures { result ≡ self.cross_align }
     {
-        let a = self.cross_align;
-        a
+        self.cross_align
     }
 
     pub fn cross_justify(self) -> bool
@@ -68,35 +35,29 @@ impl Layout {
     pub fn is_horizontal(self) -> bool
         ensures { result ≡ is_horizontal self.main_dir }
     {
-        let d = self.main_dir;
-        d.is_horizontal()
+        self.main_dir.is_horizontal()
     }
 
     pub fn is_vertical(self) -> bool
         ensures { result ≡ not (is_horizontal self.main_dir) }
     {
-        let d = self.main_dir;
-        d.is_vertical()
+        self.main_dir.is_vertical()
     }
 
     pub fn prefer_right_to_left(self) -> bool
         ensures { result ≡ prefer_right_to_left self }
     {
-        let d = self.main_dir;
-        let a = self.cross_align;
-        is_right_to_left(d) | (d.is_vertical() & is_max(a))
+        (self.main_dir == Direction::RightToLeft)
+            | (self.is_vertical() & (self.cross_align == Align::Max))
     }
 
     pub fn horizontal_placement(self) -> Align
         ensures { result ≡ horizontal_placement self }
     {
-        let d = self.main_dir;
-        let a = self.cross_align;
-        match d {
+        match self.main_dir {
             Direction::LeftToRight => Align::LEFT,
             Direction::RightToLeft => Align::RIGHT,
-            Direction::TopDown => a,
-            Direction::BottomUp => a,
+            Direction::TopDown | Direction::BottomUp => self.cross_align,
         }
     }
 

@@ -29,69 +29,71 @@ impl Layout {
         ensures answer { numbered result ≡ checked_initial_cursor self max_rect }
         ensures says { Says zero_rect (numbered result) (initial_cursor_number self max_rect) (initial_cursor self.main_dir max_rect) }
     {
-        let d = self.main_dir;
-        let cursor = available::initial_cursor(d, max_rect);
-        let after = outside_domain(cursor_fault(d, cursor));
+        let cursor = available::initial_cursor(self.main_dir, max_rect);
+        let after = outside_domain(cursor_fault(self.main_dir, cursor));
         answer(rect_fault(max_rect).or(after), cursor)
     }
 
     pub fn region_from_max_rect(self, max_rect: Rect) -> Result<Region, Refusal>
         ensures { region_outcome zero_region result ≡ checked_region_from_max_rect tick self max_rect }
     {
-        let d = self.main_dir;
         let new = widgets::region_from_max_rect(self, max_rect);
-        changed_region(d, rect_fault(max_rect), new)
+        changed_region(self.main_dir, rect_fault(max_rect), new)
     }
 
     pub fn available_rect_before_wrap(self, region: Region) -> Result<Rect, Refusal>
         ensures answer { numbered result ≡ checked_available_rect_before_wrap self region }
         ensures says { Says zero_rect (numbered result) (available_rect_before_wrap_number self region) (available_rect_before_wrap self.main_dir region) }
     {
-        let d = self.main_dir;
-        let rect = available::available_rect_before_wrap(d, region);
-        placed_rect(region_fault(d, region), rect)
+        let rect = available::available_rect_before_wrap(self.main_dir, region);
+        placed_rect(region_fault(self.main_dir, region), rect)
     }
 
     pub fn available_size(self, region: Region) -> Result<Vec2, Refusal>
         ensures answer { numbered result ≡ checked_available_size self region }
         ensures says { Says zero_vec (numbered result) (available_size_number self region) (available_size self region) }
     {
-        let d = self.main_dir;
         let size = available::available_size(self, region);
         let after = outside_domain(pair_fault(size.x, size.y));
-        answer(region_fault(d, region).or(after), size)
+        answer(region_fault(self.main_dir, region).or(after), size)
     }
 
-    pub fn available_from_cursor_max_rect(self, cursor: Rect, max_rect: Rect) -> Result<Rect, Refusal>
+    pub fn available_from_cursor_max_rect(
+        self,
+        cursor: Rect,
+        max_rect: Rect,
+    ) -> Result<Rect, Refusal>
         ensures answer { numbered result ≡ checked_available_from_cursor_max_rect self cursor max_rect }
         ensures says { Says zero_rect (numbered result) (available_from_cursor_max_rect_number self cursor max_rect) (available_from_cursor_max_rect self.main_dir cursor max_rect) }
     {
-        let d = self.main_dir;
-        let rect = available::available_from_cursor_max_rect(d, cursor, max_rect);
+        let rect = available::available_from_cursor_max_rect(self.main_dir, cursor, max_rect);
         placed_rect(
-            first_of(cursor_fault(d, cursor), rect_fault(max_rect)),
+            first_of(cursor_fault(self.main_dir, cursor), rect_fault(max_rect)),
             rect,
         )
     }
 
-    pub fn next_frame(self, region: Region, child_size: Vec2, spacing: Vec2) -> Result<Rect, Refusal>
+    pub fn next_frame(
+        self,
+        region: Region,
+        child_size: Vec2,
+        spacing: Vec2,
+    ) -> Result<Rect, Refusal>
         ensures answer { numbered result ≡ checked_next_frame tick self region child_size spacing }
         ensures says { Says zero_rect (numbered result) (next_frame_number tick self region child_size spacing) (next_frame tick self region child_size spacing) }
     {
-        let d = self.main_dir;
         let frame = frames::next_frame(self, region, child_size, spacing);
         let sizes = first_of(size_fault(child_size), pair_fault(spacing.x, spacing.y));
-        placed_rect(first_of(region_fault(d, region), sizes), frame)
+        placed_rect(first_of(region_fault(self.main_dir, region), sizes), frame)
     }
 
     pub fn next_frame_ignore_wrap(self, region: Region, child_size: Vec2) -> Result<Rect, Refusal>
         ensures answer { numbered result ≡ checked_next_frame_ignore_wrap tick self region child_size }
         ensures says { Says zero_rect (numbered result) (next_frame_ignore_wrap_number tick self region child_size) (next_frame_ignore_wrap tick self region child_size) }
     {
-        let d = self.main_dir;
         let frame = frames::next_frame_ignore_wrap(self, region, child_size);
         placed_rect(
-            first_of(region_fault(d, region), size_fault(child_size)),
+            first_of(region_fault(self.main_dir, region), size_fault(child_size)),
             frame,
         )
     }
@@ -101,20 +103,20 @@ impl Layout {
         ensures says { Says zero_rect (numbered result) (justify_and_align_number tick self frame child_size) (justify_and_align tick self frame child_size) }
     {
         let widget = widgets::justify_and_align(self, frame, child_size);
-        placed_rect(
-            first_of(rect_fault(frame), size_fault(child_size)),
-            widget,
-        )
+        placed_rect(first_of(rect_fault(frame), size_fault(child_size)), widget)
     }
 
-    pub fn next_widget_space_ignore_wrap_justify(self, region: Region, size: Vec2) -> Result<Rect, Refusal>
+    pub fn next_widget_space_ignore_wrap_justify(
+        self,
+        region: Region,
+        size: Vec2,
+    ) -> Result<Rect, Refusal>
         ensures answer { numbered result ≡ checked_next_widget_space_ignore_wrap_justify tick self region size }
         ensures says { Says zero_rect (numbered result) (next_widget_space_ignore_wrap_justify_number tick self region size) (next_widget_space_ignore_wrap_justify tick self region size) }
     {
-        let d = self.main_dir;
         let rect = widgets::next_widget_space_ignore_wrap_justify(self, region, size);
         placed_rect(
-            first_of(region_fault(d, region), size_fault(size)),
+            first_of(region_fault(self.main_dir, region), size_fault(size)),
             rect,
         )
     }
@@ -123,19 +125,17 @@ impl Layout {
         ensures answer { numbered result ≡ checked_next_widget_position tick self region }
         ensures says { Says zero_pos (numbered result) (next_widget_position_number tick self region) (next_widget_position tick self region) }
     {
-        let d = self.main_dir;
         let pos = widgets::next_widget_position(self, region);
         let after = outside_domain(pair_fault(pos.x, pos.y));
-        answer(region_fault(d, region).or(after), pos)
+        answer(region_fault(self.main_dir, region).or(after), pos)
     }
 
     pub fn advance_cursor(self, region: Region, amount: f32) -> Result<Region, Refusal>
         ensures { region_outcome region result ≡ checked_advance_cursor self region amount }
     {
-        let d = self.main_dir;
-        let new = cursors::advance_cursor(d, region, amount);
-        let before = first_of(region_fault(d, region), length_fault(amount));
-        changed_region(d, before, new)
+        let new = cursors::advance_cursor(self.main_dir, region, amount);
+        let before = first_of(region_fault(self.main_dir, region), length_fault(amount));
+        changed_region(self.main_dir, before, new)
     }
 
     pub fn advance_after_rects(
@@ -147,33 +147,33 @@ impl Layout {
     ) -> Result<Rect, Refusal>
         ensures { cursor_outcome cursor result ≡ checked_advance_after_rects self cursor frame_rect widget_rect item_spacing }
     {
-        let d = self.main_dir;
         let new = cursors::advance_after_rects(self, cursor, frame_rect, widget_rect, item_spacing);
         let rest = first_of(
             rect_fault(widget_rect),
             pair_fault(item_spacing.x, item_spacing.y),
         );
         let rects = first_of(rect_fault(frame_rect), rest);
-        let before = first_of(cursor_fault(d, cursor), rects);
-        let after = outside_domain(cursor_fault(d, new));
+        let before = first_of(cursor_fault(self.main_dir, cursor), rects);
+        let after = outside_domain(cursor_fault(self.main_dir, new));
         answer(before.or(after), new)
     }
 
     pub fn end_row(self, region: Region, spacing: Vec2) -> Result<Region, Refusal>
         ensures { region_outcome region result ≡ checked_end_row self region spacing }
     {
-        let d = self.main_dir;
         let new = cursors::end_row(self, region, spacing);
-        let before = first_of(region_fault(d, region), pair_fault(spacing.x, spacing.y));
-        changed_region(d, before, new)
+        let before = first_of(
+            region_fault(self.main_dir, region),
+            pair_fault(spacing.x, spacing.y),
+        );
+        changed_region(self.main_dir, before, new)
     }
 
     pub fn set_row_height(self, region: Region, height: f32) -> Result<Region, Refusal>
         ensures { region_outcome region result ≡ checked_set_row_height self region height }
     {
-        let d = self.main_dir;
         let new = cursors::set_row_height(self, region, height);
-        let before = first_of(region_fault(d, region), length_fault(height));
-        changed_region(d, before, new)
+        let before = first_of(region_fault(self.main_dir, region), length_fault(height));
+        changed_region(self.main_dir, before, new)
     }
 }

@@ -56,14 +56,14 @@ pub fn next_widget_position(layout: Layout, region: Region) -> Pos2
 pub fn region_from_max_rect(layout: Layout, max_rect: Rect) -> Region
     ensures { result ≡ region_from_max_rect tick layout max_rect }
 {
-    let d = layout.main_dir;
     let region = Region {
         min_rect: max_rect,
-        max_rect: max_rect,
-        cursor: initial_cursor(d, max_rect),
+        max_rect,
+        cursor: initial_cursor(layout.main_dir, max_rect),
     };
     let seed = next_widget_position(layout, region);
-    let mut g = region;
-    g.min_rect = Rect::from_center_size(seed, Vec2::ZERO);
-    g
+    Region {
+        min_rect: Rect::from_center_size(seed, Vec2::ZERO),
+        ..region
+    }
 }

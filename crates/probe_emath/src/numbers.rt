@@ -34,12 +34,12 @@ pub extern "C" fn emath_num_fast_midpoint(a: f32, b: f32) -> f32 {
 
 #[unsafe(no_mangle)]
 pub extern "C" fn emath_num_infinity() -> f32 {
-    emath::num::infinity()
+    f32::INFINITY
 }
 
 #[unsafe(no_mangle)]
 pub extern "C" fn emath_num_nan() -> f32 {
-    emath::num::nan()
+    f32::NAN
 }
 
 #[unsafe(no_mangle)]

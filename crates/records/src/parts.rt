@@ -5,7 +5,6 @@ ghost use Rattle.records.specs.Parts.{points as points_of, length_in, size_in, c
 use crate::units::in_steps;
 use crate::{LIMIT, Length, SizeUnit};
 use emath::TICKS_PER_POINT;
-use emath::num::infinity;
 use text::Field;
 use text::fields::read_field;
 
@@ -91,7 +90,7 @@ pub fn maximum_value(l: Length) -> f32
 {
     match l {
         Length::Points(x) => x,
-        Length::Blank => infinity(),
+        Length::Blank => f32::INFINITY,
         Length::Wrong => 0.0,
     }
 }

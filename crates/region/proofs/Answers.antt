@@ -1,5 +1,5 @@
 -- What an answer says of a state, and what an accepted call's parts are. Assumes nothing.
-use Rattle.std.proofs.Common.{◌≡◌, refl, ℕ, zero, suc, [], ◌∷◌}
+use Rattle.std.proofs.Common.{◌≡◌, refl, ℕ, suc, [], ◌∷◌}
 use Rattle.std.specs.Prelude.{Option, None, Some}
 use Rattle.emath.specs.Refusals.{outside, edges_fault, rect_fault, least, fault_number, answered}
 use Rattle.emath.specs.declared.Refusal.{Refusal}

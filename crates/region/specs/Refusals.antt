@@ -3,10 +3,9 @@ use Rattle.std.specs.Prelude.{ℕ, cond, [], ◌∷◌, eqb, Float, Result, Ok, 
 use Rattle.std.specs.Float.Ieee.{neg, eq}
 use Rattle.emath.specs.Rectangles.{zero_f}
 use Rattle.emath.specs.Refusals.{least, edges_fault, rect_fault, number_of}
-use Rattle.region.specs.Regions.{infinity, zero_vec, set_left, set_top, set_right, set_bottom}
+use Rattle.region.specs.Regions.{infinity, set_left, set_top, set_right, set_bottom}
 use Rattle.emath.specs.declared.Rect.{Rect}
 use Rattle.emath.specs.declared.Refusal.{Refusal}
-use Rattle.emath.specs.declared.Vec2.{Vec2}
 use Rattle.emath.specs.declared.Pos2.{Pos2}
 use Rattle.region.specs.declared.Direction.{Direction}
 use Rattle.region.specs.declared.Direction.TheVariants.{LeftToRight, RightToLeft, TopDown, BottomUp}

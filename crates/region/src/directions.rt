@@ -9,10 +9,8 @@ impl Direction {
         ensures { result ≡ is_horizontal self }
     {
         match self {
-            Direction::LeftToRight => true,
-            Direction::RightToLeft => true,
-            Direction::TopDown => false,
-            Direction::BottomUp => false,
+            Direction::LeftToRight | Direction::RightToLeft => true,
+            Direction::TopDown | Direction::BottomUp => false,
         }
     }
 

@@ -7,7 +7,6 @@ ghost use Rattle.region.specs.Operations.{placed_number, changed_region};
 
 use crate::{Direction, Region};
 use emath::faults::{answer, edges_fault, first_of, outside_domain, rect_fault};
-use emath::num::infinity;
 use emath::{Rect, Refusal};
 
 pub fn zero_if_open(outward: f32, edge: f32) -> f32
@@ -19,23 +18,24 @@ pub fn zero_if_open(outward: f32, edge: f32) -> f32
 fn closed_cursor(main_dir: Direction, cursor: Rect) -> Rect
     ensures { result ≡ closed main_dir cursor }
 {
-    let mut c = cursor;
-    let far = infinity();
     match main_dir {
-        Direction::LeftToRight => {
-            c.right = zero_if_open(far, c.right);
-        }
-        Direction::RightToLeft => {
-            c.left = zero_if_open(-far, c.left);
-        }
-        Direction::TopDown => {
-            c.bottom = zero_if_open(far, c.bottom);
-        }
-        Direction::BottomUp => {
-            c.top = zero_if_open(-far, c.top);
-        }
+        Direction::LeftToRight => Rect {
+            right: zero_if_open(f32::INFINITY, cursor.right),
+            ..cursor
+        },
+        Direction::RightToLeft => Rect {
+            left: zero_if_open(f32::NEG_INFINITY, cursor.left),
+            ..cursor
+        },
+        Direction::TopDown => Rect {
+            bottom: zero_if_open(f32::INFINITY, cursor.bottom),
+            ..cursor
+        },
+        Direction::BottomUp => Rect {
+            top: zero_if_open(f32::NEG_INFINITY, cursor.top),
+            ..cursor
+        },
     }
-    c
 }
 
 pub fn cursor_fault(main_dir: Direction, cursor: Rect) -> Option<Refusal>
@@ -70,10 +70,7 @@ pub fn changed_region(
 ) -> Result<Region, Refusal>
     ensures { (given : Given) → region_outcome given result ≡ changed_region main_dir (fault_number before) given new }
 {
-    answer(
-        before.or(outside_domain(region_fault(main_dir, new))),
-        new,
-    )
+    answer(before.or(outside_domain(region_fault(main_dir, new))), new)
 }
 
 // What a call without a given region answers when it is refused.

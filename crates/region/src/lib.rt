@@ -8,7 +8,7 @@ pub mod faults;
 mod operations;
 pub mod regions;
 
-#[derive(Clone, Copy)]
+#[derive(Clone, Copy, PartialEq, Eq)]
 pub enum Direction {
     LeftToRight,
     RightToLeft,

@@ -10,18 +10,17 @@ use emath::unions::union_with;
 pub fn with_cursor(region: Region, cursor: Rect) -> Region
     ensures { result ≡ with_cursor region cursor }
 {
-    let mut g = region;
-    g.cursor = cursor;
-    g
+    Region { cursor, ..region }
 }
 
 pub fn expand_to_include_rect(region: Region, rect: Rect) -> Region
     ensures { result ≡ expand_to_include_rect region rect }
 {
-    let mut g = region;
-    g.min_rect = region.min_rect.union(rect);
-    g.max_rect = region.max_rect.union(rect);
-    g
+    Region {
+        min_rect: region.min_rect.union(rect),
+        max_rect: region.max_rect.union(rect),
+        ..region
+    }
 }
 
 // The same, where neither rectangle has a NaN.
@@ -29,10 +28,11 @@ pub fn expand_with_rect(region: Region, rect: Rect) -> Region
     requires { Numbers region.min_rect × Numbers region.max_rect }
     ensures { result ≡ expand_to_include_rect region rect }
 {
-    let mut g = region;
-    g.min_rect = union_with(region.min_rect, rect);
-    g.max_rect = union_with(region.max_rect, rect);
-    g
+    Region {
+        min_rect: union_with(region.min_rect, rect),
+        max_rect: union_with(region.max_rect, rect),
+        ..region
+    }
 }
 
 pub fn expand_to_include_x(region: Region, x: f32) -> Region

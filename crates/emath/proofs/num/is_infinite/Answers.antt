@@ -1,7 +1,7 @@
-use lib.Ieee.{of_bits, div}
 use Rattle.std.proofs.Common.{refl}
+use lib.Ieee.{of_bits}
 use Rattle.emath.proofs.num.is_infinite.Goals as goal
 
 pub returns : goal.returns
-unfolding of_bits div
+unfolding of_bits
 returns c = refl

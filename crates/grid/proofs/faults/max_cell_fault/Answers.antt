@@ -1,6 +1,7 @@
+use lib.Ieee.{of_bits}
 use Rattle.grid.specs.Refusals.{max_cell_fault}
 use Rattle.grid.proofs.faults.max_cell_fault.Goals as goal
 
 pub returns : goal.returns
-unfolding max_cell_fault
-returns c = rw (c.size_fault.ensures, c.zero_if_open-2.ensures, c.zero_if_open.ensures, c.infinity-far.ensures)
+unfolding max_cell_fault of_bits
+returns c = rw (c.size_fault.ensures, c.zero_if_open-2.ensures, c.zero_if_open.ensures)

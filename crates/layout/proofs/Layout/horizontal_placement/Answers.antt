@@ -1,3 +1,4 @@
+use Rattle.std.proofs.Common.{inl, inr}
 use Rattle.layout.specs.Layouts.{placement}
 use Rattle.layout.proofs.Layout.horizontal_placement.Goals as goal
 
@@ -11,8 +12,4 @@ returns-in-RightToLeft c = rw c.in-RightToLeft.is
 
 pub returns-in-TopDown : goal.returns-in-TopDown
 unfolding placement
-returns-in-TopDown c = rw c.in-TopDown.is
-
-pub returns-in-BottomUp : goal.returns-in-BottomUp
-unfolding placement
-returns-in-BottomUp c = rw c.in-BottomUp.is
+returns-in-TopDown c = elim c.in-TopDown.is [ inl e ↦ rw e | inr e ↦ rw e ]

@@ -3,4 +3,4 @@ use Rattle.region.proofs.regions.expand_with_rect.Goals as goal
 
 pub returns : goal.returns
 unfolding expand_to_include_rect
-returns c = rw (c.union_with-g-2.ensures, c.union_with-g.ensures)
+returns c = rw (c.union_with-2.ensures, c.union_with.ensures)

@@ -1,7 +1,0 @@
-use Rattle.std.proofs.Common.{refl}
-use lib.Ieee.{div, of_bits}
-use Rattle.emath.proofs.num.nan.Goals as goal
-
-pub returns : goal.returns
-unfolding div of_bits
-returns c = refl

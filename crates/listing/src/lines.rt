@@ -102,11 +102,9 @@ fn put_widgets_from(
     ensures { record { at = result; out = out.new } ≡ put_widgets most first 0 (drop from text.now) cells.now (record { at = 0; out = out.old }) }
 {
     let mut at = from;
-    let mut n = first;
     let mut k: usize = 0;
     let mut end: usize = 0;
-    let mut left = most;
-    while 0 < left {
+    for n in first..first + most {
         if text.len() <= at {
             return end;
         }
@@ -114,8 +112,6 @@ fn put_widgets_from(
         end = put_widget(out, end, here, n, cells, k);
         k += here;
         at = next_record(text, at);
-        n += 1;
-        left -= 1;
     }
     end
 }
@@ -156,11 +152,9 @@ fn put_entries(out: &mut [u8], at: usize, letter: u8, entries: &[f32]) -> usize
     requires { (length entries.now ≤ 128) × Whole entries.now }
     ensures { record { at = result; out = out.new } ≡ put_entries letter 0 entries.now (record { at = at; out = out.old }) }
 {
-    let mut i: usize = 0;
     let mut end = at;
-    while i < entries.len() {
-        end = put_entry(out, end, letter, i, entries[i]);
-        i += 1;
+    for (i, &x) in entries.iter().enumerate() {
+        end = put_entry(out, end, letter, i, x);
     }
     end
 }

@@ -92,15 +92,14 @@ pub extern "C" fn heading_read(
     lengths: &mut [f32; 10],
     counts: &mut [usize; 12],
 ) -> usize {
-    let fault = heading_fault(text);
-    if fault == 0 {
-        let h = read_heading(text);
-        put_heading(lengths, counts, h);
-        put_rest(lengths, counts, h);
-        let unit = h.unit;
-        counts[11] = number_of_unit(unit);
+    if let Some(fault) = heading_fault(text) {
+        return fault;
     }
-    fault
+    let h = read_heading(text);
+    put_heading(lengths, counts, h);
+    put_rest(lengths, counts, h);
+    counts[11] = number_of_unit(h.unit);
+    0
 }
 
 fn put_length(lengths: &mut [f32; 2], kind: u8, x: f32) -> u8 {

@@ -12,6 +12,7 @@ use crate::records::next_record;
 use crate::{GridOptions, Heading, SizeUnit};
 use emath::Vec2;
 
+#[tactic(auto, unfolding(crate::specs::Headings::stands))]
 fn stands(text: &[u8], letter: u8, at: usize) -> bool
     ensures { result ≡ stands_at letter text.now at }
 {

@@ -6,6 +6,7 @@ use crate::parts::{byte, ends, is_length, length, length_value, size};
 use crate::{SizeUnit, Step};
 
 // A record of n fields, which fit or don't: this step where they do and an LF stands after them, and else none.
+#[tactic(auto, unfolding(crate::specs::Records::step_record))]
 fn step_record(text: &[u8], n: usize, fits: bool, step: Step) -> Option<Step>
     requires { n ≤ 12 }
     ensures { result ≡ step_record text.now n fits step }

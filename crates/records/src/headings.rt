@@ -2,7 +2,6 @@
 ghost use Rattle.std.specs.Prelude.{◌≡◌, true, cond, ◌+◌, ◌<◌, ◌≤◌, length, drop, MatchOption};
 ghost use Rattle.text.specs.Letters as letters;
 ghost use Rattle.records.specs.Records.{options_in};
-ghost use Rattle.records.specs.declared.SizeUnit.TheVariants.{Steps, Hundredths};
 ghost use Rattle.records.specs.Headings.{stands as stands_at, past as past_at, unit_at, grid_at, steps_at, has_unit, has_grid_lem, no_options, heading_in, unit_fits, options_fit, heading_fault};
 
 use crate::grids::{grid_fits, options_in};
@@ -62,16 +61,6 @@ pub fn has_grid(text: &[u8]) -> bool
     stands(text, b'G', grid_at(text))
 }
 
-fn unit_of(metric: bool) -> SizeUnit
-    ensures { result ≡ cond metric Hundredths Steps }
-{
-    if metric {
-        SizeUnit::Hundredths
-    } else {
-        SizeUnit::Steps
-    }
-}
-
 // Without a G.
 fn no_options() -> GridOptions
     ensures { result ≡ no_options }
@@ -104,7 +93,11 @@ pub fn read_heading(text: &[u8]) -> Heading
         layout: layout_in(text),
         max_rect: rect_in(text),
         spacing: pair_in(text, 10),
-        unit: unit_of(metric),
+        unit: if metric {
+            SizeUnit::Hundredths
+        } else {
+            SizeUnit::Steps
+        },
         has_grid: grid,
         options: options(text, grid),
         records: 1 + usize::from(metric) + usize::from(grid),

@@ -41,10 +41,7 @@ pub fn put_refusal(out: &mut [u8], refusal: Refusal, record: usize) -> usize
 fn place(cells: &[i32], i: usize) -> i32
     ensures { result ≡ get_or cells.now i (pos 0) }
 {
-    if i < cells.len() {
-        return cells[i];
-    }
-    0
+    cells.get(i).copied().unwrap_or(0)
 }
 
 // 1 where the record at a place is a W, else 0.
@@ -102,11 +99,9 @@ fn put_widgets_from(
     ensures { record { at = result; out = out.new } ≡ put_widgets most first 0 (drop from text.now) cells.now (record { at = 0; out = out.old }) }
 {
     let mut at = from;
-    let mut n = first;
     let mut k: usize = 0;
     let mut end: usize = 0;
-    let mut left = most;
-    while 0 < left {
+    for n in first..first + most {
         if text.len() <= at {
             return end;
         }
@@ -114,8 +109,6 @@ fn put_widgets_from(
         end = put_widget(out, end, here, n, cells, k);
         k += here;
         at = next_record(text, at);
-        n += 1;
-        left -= 1;
     }
     end
 }
@@ -125,8 +118,7 @@ pub fn put_widgets(out: &mut [u8], text: &[u8], cells: &[i32]) -> usize
     ensures { record { at = result; out = out.new } ≡ put_widgets (steps_left text.now) ((heading_in text.now).records + 1) 0 (drop (heading_in text.now).next text.now) cells.now (record { at = 0; out = out.old }) }
 {
     let h = read_heading(text);
-    let records = h.records;
-    put_widgets_from(out, text, cells, h.next, records + 1, MAX_RECORDS - records)
+    put_widgets_from(out, text, cells, h.next, h.records + 1, MAX_RECORDS - h.records)
 }
 
 // P: the plate's edges.
@@ -156,11 +148,9 @@ fn put_entries(out: &mut [u8], at: usize, letter: u8, entries: &[f32]) -> usize
     requires { (length entries.now ≤ 128) × Whole entries.now }
     ensures { record { at = result; out = out.new } ≡ put_entries letter 0 entries.now (record { at = at; out = out.old }) }
 {
-    let mut i: usize = 0;
     let mut end = at;
-    while i < entries.len() {
-        end = put_entry(out, end, letter, i, entries[i]);
-        i += 1;
+    for (i, &x) in entries.iter().enumerate() {
+        end = put_entry(out, end, letter, i, x);
     }
     end
 }
@@ -170,10 +160,6 @@ pub fn put_memory(out: &mut [u8], at: usize, memory: Memory) -> usize
     requires { WholeMemory memory }
     ensures { record { at = result; out = out.new } ≡ put_memory memory (record { at = at; out = out.old }) }
 {
-    let cols = memory.cols;
-    let rows = memory.rows;
-    let widths = memory.col_widths;
-    let heights = memory.row_heights;
-    let after = put_entries(out, at, b'C', &widths[0..cols]);
-    put_entries(out, after, b'D', &heights[0..rows])
+    let after = put_entries(out, at, b'C', &memory.col_widths[..memory.cols]);
+    put_entries(out, after, b'D', &memory.row_heights[..memory.rows])
 }

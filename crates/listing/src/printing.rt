@@ -13,8 +13,8 @@ use grid::Memory;
 use grid::memories::empty_memory;
 use records::CACHE_LEN;
 use records::headings::has_grid;
-use sheet::passing::{pass_cached, pass_caching};
 use sheet::Passed;
+use sheet::passing::{pass_cached, pass_caching};
 
 // An accepted pass: W for each control, P, then C and D. Without a grid the memory is empty, and there is neither.
 fn put_accepted(out: &mut [u8], text: &[u8], cells: &[i32], plate: Rect, memory: Memory) -> usize

@@ -69,14 +69,14 @@ pub extern "C" fn heading_read(
     lengths: &mut [f32; 10],
     counts: &mut [usize; 12],
 ) -> usize {
-    let fault = heading_fault(text);
-    if fault == 0 {
-        let h = read_heading(text);
-        put_heading(lengths, counts, h);
-        put_rest(lengths, counts, h);
-        counts[11] = h.unit as usize;
+    if let Some(fault) = heading_fault(text) {
+        return fault;
     }
-    fault
+    let h = read_heading(text);
+    put_heading(lengths, counts, h);
+    put_rest(lengths, counts, h);
+    counts[11] = h.unit as usize;
+    0
 }
 
 fn put_length(lengths: &mut [f32; 2], kind: u8, x: f32) -> u8 {

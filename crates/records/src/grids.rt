@@ -9,6 +9,7 @@ use emath::Vec2;
 use text::Field;
 
 // Field 4: 1 to 32, or blank.
+#[tactic(auto, unfolding(crate::specs::Records::is_columns))]
 fn is_columns(f: Field) -> bool
     ensures { result ≡ is_columns f }
 {
@@ -20,12 +21,14 @@ fn is_columns(f: Field) -> bool
 }
 
 // Fields 2 and 3.
+#[tactic(auto, unfolding(crate::specs::Records::maxima_fit))]
 fn maxima_fit(text: &[u8]) -> bool
     ensures { result ≡ maxima_fit text.now }
 {
     is_maximum(length(text, 2)) & is_maximum(length(text, 3))
 }
 
+#[tactic(auto, unfolding(crate::specs::Records::maxima_in))]
 fn maxima_in(text: &[u8]) -> Vec2
     ensures { result ≡ maxima_in text.now }
 {
@@ -35,6 +38,7 @@ fn maxima_in(text: &[u8]) -> Vec2
     }
 }
 
+#[tactic(auto, unfolding(crate::specs::Records::options_in))]
 pub fn options_in(text: &[u8]) -> GridOptions
     ensures { result ≡ options_in text.now }
 {
@@ -46,6 +50,7 @@ pub fn options_in(text: &[u8]) -> GridOptions
     }
 }
 
+#[tactic(auto, unfolding(crate::specs::Records::grid_fits))]
 pub fn grid_fits(text: &[u8]) -> bool
     ensures { result ≡ grid_fits text.now }
 {

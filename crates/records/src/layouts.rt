@@ -8,6 +8,7 @@ use layout::Layout;
 use region::Direction;
 
 // 0 LeftToRight, 1 RightToLeft, 2 TopDown, 3 BottomUp.
+#[tactic(auto, unfolding(crate::specs::Records::direction_of))]
 fn direction_of(n: usize) -> Direction
     ensures { result ≡ direction_of n }
 {
@@ -20,6 +21,7 @@ fn direction_of(n: usize) -> Direction
 }
 
 // 0 Min, 1 Center, 2 Max.
+#[tactic(auto, unfolding(crate::specs::Records::align_of))]
 fn align_of(n: usize) -> Align
     ensures { result ≡ align_of n }
 {
@@ -31,6 +33,7 @@ fn align_of(n: usize) -> Align
 }
 
 // Fields 0 to 5.
+#[tactic(auto, unfolding(crate::specs::Records::layout_fits))]
 fn layout_fits(text: &[u8]) -> bool
     ensures { result ≡ layout_fits text.now }
 {
@@ -43,6 +46,7 @@ fn layout_fits(text: &[u8]) -> bool
     direction & wrap & main_align & main_justify & cross_align & cross_justify
 }
 
+#[tactic(auto, unfolding(crate::specs::Records::layout_in))]
 pub fn layout_in(text: &[u8]) -> Layout
     ensures { result ≡ layout_in text.now }
 {
@@ -63,6 +67,7 @@ pub fn layout_in(text: &[u8]) -> Layout
 }
 
 // Fields i and i + 1.
+#[tactic(auto, unfolding(crate::specs::Records::pair_fits))]
 pub fn pair_fits(text: &[u8], i: usize) -> bool
     requires { i < 11 }
     ensures { result ≡ pair_fits text.now i }
@@ -70,6 +75,7 @@ pub fn pair_fits(text: &[u8], i: usize) -> bool
     is_length(length(text, i)) & is_length(length(text, i + 1))
 }
 
+#[tactic(auto, unfolding(crate::specs::Records::pair_in))]
 pub fn pair_in(text: &[u8], i: usize) -> Vec2
     requires { i < 11 }
     ensures { result ≡ pair_in text.now i }
@@ -81,6 +87,7 @@ pub fn pair_in(text: &[u8], i: usize) -> Vec2
 }
 
 // Fields 6 to 9.
+#[tactic(auto, unfolding(crate::specs::Records::rect_in))]
 pub fn rect_in(text: &[u8]) -> Rect
     ensures { result ≡ rect_in text.now }
 {
@@ -94,6 +101,7 @@ pub fn rect_in(text: &[u8]) -> Rect
     }
 }
 
+#[tactic(auto, unfolding(crate::specs::Records::heading_fits))]
 pub fn heading_fits(text: &[u8]) -> bool
     ensures { result ≡ heading_fits text.now }
 {

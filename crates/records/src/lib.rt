@@ -69,7 +69,8 @@ pub enum Step {
     RowEnd,
 }
 
-// A field that holds a length, in points.
+// A field that holds a length, in points. Three cases, and neither an Option nor a Result: a blank is well formed where it is a maximum, and
+// malformed elsewhere (RULES 6.6, 6.9).
 #[derive(Clone, Copy)]
 pub enum Length {
     Points(f32),

@@ -12,10 +12,7 @@ use text::fields::read_field;
 pub fn byte(text: &[u8], at: usize) -> u8
     ensures { result ≡ get_or text.now at 0 }
 {
-    if at < text.len() {
-        return text[at];
-    }
-    0
+    text.get(at).copied().unwrap_or(0)
 }
 
 // From ticks.
@@ -39,6 +36,7 @@ pub fn size(text: &[u8], unit: SizeUnit, i: usize) -> Length
 }
 
 // Field i of any record but a W: in steps, whatever the sheet's unit.
+#[tactic(auto, unfolding(crate::specs::Parts::length_in))]
 pub fn length(text: &[u8], i: usize) -> Length
     requires { i < 12 }
     ensures { result ≡ length_in text.now i }
@@ -47,6 +45,7 @@ pub fn length(text: &[u8], i: usize) -> Length
 }
 
 // Field i of the record, whose number is at most `most`.
+#[tactic(auto, unfolding(crate::specs::Parts::count_in))]
 pub fn count(text: &[u8], i: usize, most: u32) -> Field
     requires { i < 12 }
     ensures { result ≡ count_in text.now i most }
@@ -54,37 +53,32 @@ pub fn count(text: &[u8], i: usize, most: u32) -> Field
     read_field(text, 1 + 8 * i, most)
 }
 
+#[tactic(auto, unfolding(crate::specs::Parts::is_length))]
 pub fn is_length(l: Length) -> bool
     ensures { result ≡ is_length l }
 {
-    match l {
-        Length::Points(_) => true,
-        Length::Blank => false,
-        Length::Wrong => false,
-    }
+    matches!(l, Length::Points(_))
 }
 
 // A maximum may be blank; it is then +infinity.
+#[tactic(auto, unfolding(crate::specs::Parts::is_maximum))]
 pub fn is_maximum(l: Length) -> bool
     ensures { result ≡ is_maximum l }
 {
-    match l {
-        Length::Points(_) => true,
-        Length::Blank => true,
-        Length::Wrong => false,
-    }
+    !matches!(l, Length::Wrong)
 }
 
+#[tactic(auto, unfolding(crate::specs::Parts::length_value))]
 pub fn length_value(l: Length) -> f32
     ensures { result ≡ length_value l }
 {
     match l {
         Length::Points(x) => x,
-        Length::Blank => 0.0,
-        Length::Wrong => 0.0,
+        _ => 0.0,
     }
 }
 
+#[tactic(auto, unfolding(crate::specs::Parts::maximum_value))]
 pub fn maximum_value(l: Length) -> f32
     ensures { result ≡ maximum_value l }
 {
@@ -95,40 +89,39 @@ pub fn maximum_value(l: Length) -> f32
     }
 }
 
+#[tactic(auto, unfolding(crate::specs::Parts::is_count))]
 pub fn is_count(f: Field, least: i32) -> bool
     ensures { result ≡ is_count f least }
 {
     match f {
-        Field::Blank => false,
         Field::Number(z) => least <= z,
-        Field::Wrong => false,
+        _ => false,
     }
 }
 
+#[tactic(auto, unfolding(crate::specs::Parts::natural))]
 fn natural(z: i32) -> usize
     ensures { result ≡ natural_of z }
 {
-    if z < 0 {
-        return 0;
-    }
-    z as usize
+    usize::try_from(z).unwrap_or(0)
 }
 
 // 0 for a blank.
+#[tactic(auto, unfolding(crate::specs::Parts::count_value))]
 pub fn count_value(f: Field) -> usize
     ensures { result ≡ count_value f }
 {
     match f {
-        Field::Blank => 0,
         Field::Number(z) => natural(z),
-        Field::Wrong => 0,
+        _ => 0,
     }
 }
 
 // One LF after n fields.
+#[tactic(auto, unfolding(crate::specs::Parts::ends))]
 pub fn ends(text: &[u8], n: usize) -> bool
     requires { n ≤ 12 }
     ensures { result ≡ ends_with text.now n }
 {
-    byte(text, 1 + 8 * n) == 10
+    byte(text, 1 + 8 * n) == b'\n'
 }

@@ -6,6 +6,7 @@ use crate::parts::{byte, ends, is_length, length, length_value, size};
 use crate::{SizeUnit, Step};
 
 // A record of n fields, which fit or don't: this step where they do and an LF stands after them, and else none.
+#[tactic(auto, unfolding(crate::specs::Records::step_record))]
 fn step_record(text: &[u8], n: usize, fits: bool, step: Step) -> Option<Step>
     requires { n ≤ 12 }
     ensures { result ≡ step_record text.now n fits step }
@@ -14,6 +15,7 @@ fn step_record(text: &[u8], n: usize, fits: bool, step: Step) -> Option<Step>
 }
 
 // Its size is in the sheet's unit.
+#[tactic(auto, unfolding(crate::specs::Records::widget_record))]
 fn widget(text: &[u8], unit: SizeUnit) -> Option<Step>
     ensures { result ≡ widget_record unit text.now }
 {
@@ -29,6 +31,7 @@ fn widget(text: &[u8], unit: SizeUnit) -> Option<Step>
 }
 
 // A letter with one length.
+#[tactic(auto, unfolding(crate::specs::Records::single_record))]
 fn single(text: &[u8], letter: u8) -> Option<Step>
     ensures { result ≡ single_record text.now letter }
 {
@@ -47,6 +50,7 @@ fn single(text: &[u8], letter: u8) -> Option<Step>
 }
 
 // The step at the front of the text; none where the record is malformed.
+#[tactic(auto, unfolding(crate::specs::Records::record_of))]
 pub fn first_record(text: &[u8], unit: SizeUnit) -> Option<Step>
     ensures { result ≡ record_of unit text.now }
 {
@@ -62,13 +66,13 @@ pub fn first_record(text: &[u8], unit: SizeUnit) -> Option<Step>
 pub fn read_record(text: &[u8], unit: SizeUnit, at: usize) -> Option<Step>
     ensures { result ≡ record_at unit text.now at }
 {
-    let n = text.len();
-    if n < at {
+    if text.len() < at {
         return None;
     }
-    first_record(&text[at..n], unit)
+    first_record(&text[at..], unit)
 }
 
+#[tactic(auto, unfolding(crate::specs::Records::field_count))]
 fn field_count(letter: u8) -> usize
     ensures { (result ≡ field_count letter) × (result ≤ 12) }
 {
@@ -76,12 +80,7 @@ fn field_count(letter: u8) -> usize
         b'H' => 12,
         b'G' => 6,
         b'W' => 2,
-        b'S' => 1,
-        b'R' => 1,
-        b'L' => 1,
-        b'K' => 1,
-        b'N' => 1,
-        b'T' => 1,
+        b'S' | b'R' | b'L' | b'K' | b'N' | b'T' => 1,
         _ => 0,
     }
 }

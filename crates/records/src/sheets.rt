@@ -12,18 +12,13 @@ use crate::{CACHE_LEN, Counts, MAX_RECORDS, SheetRefusal, Step};
 use emath::Refusal;
 
 // 1 for a W.
+#[tactic(auto, unfolding(crate::specs::Sheets::widget_step))]
 fn widget_step(st: Step) -> usize
     ensures { (result ≡ widget_step st) × (result ≤ 1) }
 {
     match st {
         Step::Widget(_, _) => 1,
-        Step::Space(_) => 0,
-        Step::RowHeight(_) => 0,
-        Step::MaxWidth(_) => 0,
-        Step::MaxHeight(_) => 0,
-        Step::MinWidth(_) => 0,
-        Step::MinHeight(_) => 0,
-        Step::RowEnd => 0,
+        _ => 0,
     }
 }
 
@@ -55,34 +50,27 @@ pub fn check_caching(text: &[u8], room: usize, sizes: &mut [f32]) -> Result<Coun
     requires { length sizes.old ≡ 1026 }
     ensures { (checked_outcome result ≡ checked text.now room) × (sizes.new ≡ cached_by text.now sizes.old) }
 {
-    let fault = heading_fault(text);
-    if fault != 0 {
+    if let Some(fault) = heading_fault(text) {
         return refused(Refusal::Malformed, fault);
     }
     let h = read_heading(text);
-    let unit = h.unit;
-    let n = text.len();
     let mut at = h.next;
-    let mut k = h.records;
     let mut w: usize = 0;
-    let mut left: usize = MAX_RECORDS - k;
-    while 0 < left {
-        if n <= at {
+    for k in h.records..MAX_RECORDS {
+        if text.len() <= at {
             return ended(k, w, room);
         }
-        let Some(st) = read_record(text, unit, at) else {
+        let Some(st) = read_record(text, h.unit, at) else {
             return refused(Refusal::Malformed, k + 1);
         };
         store(sizes, k + 1, st);
         w += widget_step(st);
         at = next_record(text, at);
-        k += 1;
-        left -= 1;
     }
-    if at < n {
+    if at < text.len() {
         return refused(Refusal::TooLong, MAX_RECORDS + 1);
     }
-    ended(k, w, room)
+    ended(MAX_RECORDS, w, room)
 }
 
 pub fn check(text: &[u8], room: usize) -> Result<Counts, SheetRefusal>

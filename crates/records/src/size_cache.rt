@@ -11,27 +11,25 @@ use crate::{SizeUnit, Step};
 const HEIGHTS: usize = 513;
 
 // Stores the size of record n, where it is a W.
+#[tactic(auto, unfolding(crate::specs::Implementation::SizeCache::stored_step))]
 pub fn store(sizes: &mut [f32], n: usize, st: Step)
     requires { (n ≤ 512) × (length sizes.old ≡ 1026) }
     ensures { sizes.new ≡ stored_step sizes.old n st }
 {
-    match st {
-        Step::Widget(x, y) => {
-            sizes[n] = x;
-            sizes[HEIGHTS + n] = y;
-        }
-        Step::Space(_) => {}
-        Step::RowHeight(_) => {}
-        Step::MaxWidth(_) => {}
-        Step::MaxHeight(_) => {}
-        Step::MinWidth(_) => {}
-        Step::MinHeight(_) => {}
-        Step::RowEnd => {}
+    if let Step::Widget(x, y) = st {
+        sizes[n] = x;
+        sizes[HEIGHTS + n] = y;
     }
 }
 
 // The record at `at`, which is record n: a W from the cache, any other read from the text.
-pub fn cached_record(text: &[u8], unit: SizeUnit, at: usize, sizes: &[f32], n: usize) -> Option<Step>
+pub fn cached_record(
+    text: &[u8],
+    unit: SizeUnit,
+    at: usize,
+    sizes: &[f32],
+    n: usize,
+) -> Option<Step>
     requires n_bound { (n ≤ 512) × (length sizes.now ≡ 1026) }
     requires cached { IsCached unit (drop at text.now) sizes.now n }
     ensures { result ≡ record_at unit text.now at }

@@ -13,9 +13,9 @@ use crate::plate::plate_with;
 use crate::steps::run_record;
 use emath::{Rect, Vec2};
 use placer::{PassState, PlacerSettings};
-use records::{SheetRefusal, SizeUnit};
 use records::records::next_record;
 use records::size_cache::cached_record;
+use records::{SheetRefusal, SizeUnit};
 
 // From the place `from`, where record `first` is, at most `most` records, the W from the cache; each W's rectangles go to the slice, and its
 // frame joins the plate.
@@ -42,11 +42,9 @@ pub fn run(
 {
     let mut s = state;
     let mut at = from;
-    let mut n = first;
     let mut w: usize = 0;
     let mut plate = Rect::ZERO;
-    let mut left = most;
-    while 0 < left {
+    for n in first..first + most {
         if text.len() <= at {
             return Ok(Ran { state: s, plate });
         }
@@ -68,8 +66,6 @@ pub fn run(
         w = put(out, w, m.cell);
         s = m.state;
         at = next_record(text, at);
-        n += 1;
-        left -= 1;
     }
     Ok(Ran { state: s, plate })
 }

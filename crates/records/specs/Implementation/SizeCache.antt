@@ -1,5 +1,5 @@
 -- For speed: the check caches the size of each W by its record's number, so that the fields of a W are read once.
-use Rattle.std.specs.Prelude.{ℕ, zero, suc, ◌+◌, ◌≡◌, List, [], ◌∷◌, Bool, true, false, cond, eqb, get_or, set, drop, Float}
+use Rattle.std.specs.Prelude.{ℕ, zero, suc, ◌+◌, ◌≡◌, List, [], ◌∷◌, cond, eqb, get_or, set, drop, Float}
 use Rattle.std.specs.Float.{nan}
 use Rattle.text.specs.Letters as letters
 use Rattle.records.specs.declared.Step.{Step}

@@ -1,7 +1,0 @@
-use lib.ListN.{get_or-eq_default}
-use lib.IntN.{pos}
-use mathlib.Core.Path.{sym}
-use Rattle.listing.proofs.lines.place.Goals as goal
-
-pub returns : goal.returns
-returns c = sym (get_or-eq_default c.args.cells.now (pos 0) c.if-i-cells.false)

@@ -1,4 +1,4 @@
-use lib.Ieee.{of_bits}
+use Rattle.std.specs.Float.Ieee.{of_bits}
 use Rattle.emath.specs.Rectangles.{centred}
 use Rattle.emath.proofs.aligning.centred_in.Goals as goal
 

@@ -1,5 +1,5 @@
 use Rattle.std.proofs.Common.{sym}
-use lib.Ieee.{of_bits, neg}
+use Rattle.std.specs.Float.Ieee.{of_bits, neg}
 use Rattle.emath.proofs.NearestWhole.{opposite, below-zero, at_zero, from_low, from-high}
 use Rattle.emath.proofs.Tests.{T_of}
 use Rattle.emath.proofs.gui_rounding.near_any.Goals as goal

@@ -1,4 +1,4 @@
-use lib.Ieee.{of_bits}
+use Rattle.std.specs.Float.Ieee.{of_bits}
 use Rattle.emath.proofs.gui_rounding.round.Goals as goal
 
 pub returns-then-is_whole : goal.returns-then-is_whole

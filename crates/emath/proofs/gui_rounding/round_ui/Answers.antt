@@ -1,4 +1,4 @@
-use lib.Ieee.{of_bits}
+use Rattle.std.specs.Float.Ieee.{of_bits}
 use Rattle.emath.proofs.gui_rounding.round_ui.Goals as goal
 
 pub round_by-requires : goal.round_by-requires

@@ -1,5 +1,5 @@
 use Rattle.std.proofs.Common.{refl}
-use lib.Ieee.{of_bits}
+use Rattle.std.specs.Float.Ieee.{of_bits}
 use Rattle.emath.proofs.num.is_infinite.Goals as goal
 
 pub returns : goal.returns

@@ -1,4 +1,4 @@
-use lib.Ieee.{of_bits}
+use Rattle.std.specs.Float.Ieee.{of_bits}
 use Rattle.grid.specs.Refusals.{max_cell_fault}
 use Rattle.grid.proofs.faults.max_cell_fault.Goals as goal
 

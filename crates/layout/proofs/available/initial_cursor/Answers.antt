@@ -1,4 +1,4 @@
-use lib.Ieee.{of_bits, neg}
+use Rattle.std.specs.Float.Ieee.{of_bits, neg}
 use Rattle.layout.specs.Rules.{initial_cursor}
 use Rattle.layout.proofs.available.initial_cursor.Goals as goal
 

@@ -1,5 +1,5 @@
 use Rattle.std.proofs.Common.{inl, inr}
-use lib.Ieee.{of_bits, neg}
+use Rattle.std.specs.Float.Ieee.{of_bits, neg}
 use Rattle.layout.specs.Rules.{next_row}
 use Rattle.layout.proofs.cursors.next_row.Goals as goal
 

@@ -1,4 +1,4 @@
-use lib.Ieee.{of_bits, neg}
+use Rattle.std.specs.Float.Ieee.{of_bits, neg}
 use Rattle.layout.specs.Rules.{row_started}
 use Rattle.layout.proofs.cursors.row_started.Goals as goal
 

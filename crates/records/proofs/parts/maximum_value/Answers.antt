@@ -1,4 +1,4 @@
-use lib.Ieee.{of_bits}
+use Rattle.std.specs.Float.Ieee.{of_bits}
 use Rattle.records.specs.Parts.{maximum_value}
 use Rattle.records.proofs.parts.maximum_value.Goals as goal
 

@@ -1,4 +1,4 @@
-use lib.Ieee.{of_bits, neg}
+use Rattle.std.specs.Float.Ieee.{of_bits, neg}
 use Rattle.region.specs.Refusals.{closed}
 use Rattle.region.proofs.faults.closed_cursor.Goals as goal
 

@@ -118,7 +118,14 @@ pub fn put_widgets(out: &mut [u8], text: &[u8], cells: &[i32]) -> usize
     ensures { record { at = result; out = out.new } ≡ put_widgets (steps_left text.now) ((heading_in text.now).records + 1) 0 (drop (heading_in text.now).next text.now) cells.now (record { at = 0; out = out.old }) }
 {
     let h = read_heading(text);
-    put_widgets_from(out, text, cells, h.next, h.records + 1, MAX_RECORDS - h.records)
+    put_widgets_from(
+        out,
+        text,
+        cells,
+        h.next,
+        h.records + 1,
+        MAX_RECORDS - h.records,
+    )
 }
 
 // P: the plate's edges.

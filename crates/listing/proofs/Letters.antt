@@ -1,8 +1,5 @@
 -- A record that is not malformed is a W exactly if its letter is W. Assumes nothing.
-use Prim.Native.Nat.{ℕ}
-use mathlib.Core.Path.{◌≡◌, refl, sym}
-use mathlib.Core.Bool.{Bool, true, false, cond, true≢false}
-use mathlib.Core.List.{List, [], ◌∷◌}
+use Rattle.std.proofs.Common.{ℕ, ◌≡◌, refl, sym, Bool, true, false, cond, true≢false, List, [], ◌∷◌}
 use Rattle.records.specs.Records.{record_of}
 use Rattle.records.specs.Controls.{only_controls}
 use Rattle.records.specs.Sheets.{widget, widget_step}

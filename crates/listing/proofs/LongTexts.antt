@@ -1,13 +1,5 @@
 -- RULES 6.23: a text longer than any sheet has the list of its first 50,177 bytes, so a buffer of that length is enough. Assumes nothing.
-use Prim.Native.Nat.{ℕ}
-use mathlib.Core.Path.{◌≡◌, refl, ap, ◌∙◌}
-use mathlib.Core.Bool.{Bool, true, false}
-use mathlib.Core.List.{List}
-use native.Mathlib.Omega.{arith}
-use borrow.Author.Tests.{leb-true, leb-false}
-use lib.Dec.{leb}
-use lib.ListN.{length, take}
-use lib.Seq.{take_all}
+use Rattle.std.proofs.Common.{ℕ, ◌≡◌, refl, ap, ◌∙◌, Bool, true, false, List, arith, leb-true, leb-false, leb, length, take, take_all}
 use Rattle.records.specs.Headings.{heading_in}
 use Rattle.records.specs.Sheets.{records, checked}
 use Rattle.records.specs.Sheets.{Checked}

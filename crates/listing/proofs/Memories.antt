@@ -1,11 +1,5 @@
 -- The memory that is printed holds whole ticks, within its arrays. Assumes nothing.
-use Prim.Native.Nat.{ℕ}
-use mathlib.Core.Path.{◌≡◌, refl, sym, subst}
-use mathlib.Core.Bool.{Bool, true, false, cond}
-use mathlib.Core.List.{List, [], ◌∷◌, map}
-use native.Mathlib.Omega.{arith}
-use lib.Dec.{eqb}
-use lib.IntN.{pos}
+use Rattle.std.proofs.Common.{ℕ, ◌≡◌, refl, sym, subst, Bool, true, false, cond, List, [], ◌∷◌, map, arith, eqb, pos}
 use Rattle.emath.specs.Steps.{most}
 use Rattle.grid.specs.Memories.{empty_memory}
 use Rattle.grid.specs.declared.Memory.{Memory}

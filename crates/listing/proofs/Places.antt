@@ -1,13 +1,6 @@
 -- A text's W are the controls of its sheet, what stands after H and M says whether there is a grid, and a refusal's record is at most 600.
 -- Assumes nothing.
-use Prim.Native.Nat.{ℕ, suc, ◌+◌, ◌*◌, ◌≤◌}
-use mathlib.Core.Path.{◌≡◌, refl, ap, sym, ◌∙◌}
-use mathlib.Core.Bool.{Bool, true, false, cond}
-use mathlib.Core.List.{List, [], ◌∷◌}
-use native.Mathlib.Omega.{arith}
-use lib.Dec.{eqb, ltb}
-use lib.IntN.{ℤ}
-use lib.ListN.{length, drop}
+use Rattle.std.proofs.Common.{ℕ, suc, ◌+◌, ◌*◌, ◌≤◌, ◌≡◌, refl, ap, sym, ◌∙◌, Bool, true, false, cond, List, [], ◌∷◌, arith, eqb, ltb, ℤ, length, drop}
 use Rattle.emath.specs.Numbers as number
 use Rattle.emath.specs.Refusals.{or_else}
 use Rattle.emath.specs.declared.Vec2.{Vec2}

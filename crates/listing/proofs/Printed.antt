@@ -1,14 +1,6 @@
 -- What a call of `pass` gives can be printed, and what the code then writes is the list. Assumes nothing.
-use Prim.Native.Nat.{ℕ, zero, suc, ◌+◌, ◌≤◌, ◌<◌}
-use mathlib.Core.Path.{◌≡◌, refl, ap, sym, ◌∙◌, subst}
-use mathlib.Core.Bool.{Bool, true, false, cond, ◌&&◌, true≢false}
-use mathlib.Core.List.{List, [], ◌++◌}
-use native.Mathlib.Omega.{arith}
-use lib.Dec.{eqb}
-use lib.IntN.{ℤ}
-use lib.ListN.{length}
-use lib.Seq.{sets, length-sets}
-use borrow.Author.Tests.{eq-eqb, ne_eqb}
+use Rattle.std.proofs.Common.{ℕ, zero, suc, ◌+◌, ◌≤◌, ◌<◌, ◌≡◌, refl, ap, sym, ◌∙◌, subst, Bool, true, false, cond, ◌&&◌, true≢false, List, [], ◌++◌, arith, eqb, ℤ, length, eq-eqb, ne_eqb}
+use Rattle.std.proofs.Math.Seq.{sets, length-sets}
 use Rattle.region.specs.Steps.{WholeRect}
 use Rattle.grid.specs.Memories.{empty_memory}
 use Rattle.grid.specs.declared.Memory.{Memory}

@@ -1,17 +1,7 @@
 -- Lines one after the other, as the code writes them: a turn of each loop, and what each return answers. Assumes nothing.
-use Prim.Native.Nat.{ℕ, zero, suc, ◌+◌, ◌-◌, ◌≤◌, ◌<◌}
-use mathlib.Core.Path.{◌≡◌, refl, ap, sym, ◌∙◌}
-use mathlib.Core.Bool.{Bool, true, false, cond, ◌&&◌, true≢false}
-use mathlib.Core.List.{List, [], ◌∷◌}
-use native.Mathlib.Omega.{arith}
-use native.Mathlib.Numerals.{add-one}
-use native.Mathlib.Nat.{add-zero}
-use borrow.Author.Tests.{leb-true, eq-eqb, ne_eqb}
-use lib.Dec.{leb, eqb}
-use lib.IntN.{ℤ, pos}
-use lib.ListN.{length, get_or, drop, length-drop, drop_of_length-le}
-use lib.Seq.{sets, length-sets, get_or-drop, drop-cons}
-use lib.Ieee.{Float, nan}
+use Rattle.std.proofs.Common.{ℕ, zero, suc, ◌+◌, ◌-◌, ◌≤◌, ◌<◌, ◌≡◌, refl, ap, sym, ◌∙◌, Bool, true, false, cond, ◌&&◌, true≢false, List, [], ◌∷◌, arith, add-one, add-zero, leb-true, eq-eqb, ne_eqb, leb, eqb, ℤ, pos, length, get_or, drop, length-drop, drop_of_length-le, get_or-drop, drop-cons, Float}
+use Rattle.std.proofs.Math.Seq.{sets, length-sets}
+use Rattle.std.specs.Float.{nan}
 use Rattle.emath.specs.Steps.{Edge}
 use Rattle.records.specs.Parts.{letter}
 use Rattle.records.specs.Records.{rest, next_at}

@@ -1,15 +1,6 @@
 -- What `settle` gives is what the list is printed from: it goes on to a second pass exactly where the rule does, and what it gives can be
 -- printed. Assumes nothing.
-use Prim.Native.Nat.{ℕ, ◌<◌}
-use mathlib.Core.Path.{◌≡◌, refl, ap, sym, ◌∙◌, subst}
-use mathlib.Core.Bool.{Bool, true, false, cond, ◌&&◌, true≢false}
-use mathlib.Core.List.{List, []}
-use native.Mathlib.Omega.{arith}
-use lib.Dec.{eqb}
-use lib.IntN.{ℤ}
-use lib.ListN.{length}
-use lib.Ieee.{Float}
-use borrow.Author.Tests.{eqb-true, ne_eqb}
+use Rattle.std.proofs.Common.{ℕ, ◌<◌, ◌≡◌, refl, ap, sym, ◌∙◌, subst, Bool, true, false, cond, ◌&&◌, true≢false, List, [], arith, eqb, ℤ, length, Float, eqb-true, ne_eqb}
 use Rattle.grid.specs.Memories.{empty_memory}
 use Rattle.grid.specs.declared.Memory.{Memory}
 use Rattle.records.specs.Headings.{has_grid_lem}

@@ -1,16 +1,6 @@
 -- What the code writes, line after line, is the list, where the array has room and each number a text. Assumes nothing.
-use Prim.Native.Nat.{ℕ, zero, suc, ◌+◌, ◌*◌, ◌≤◌, ◌<◌}
-use mathlib.Core.Path.{◌≡◌, refl, ap, sym, ◌∙◌}
-use mathlib.Core.Bool.{Bool, true, false, cond}
-use mathlib.Core.List.{List, [], ◌∷◌, ◌++◌, append_assoc}
-use native.Mathlib.Omega.{arith}
-use native.Mathlib.Nat.{add-zero}
-use borrow.Author.Tests.{le-leb}
-use lib.Dec.{eqb}
-use lib.IntN.{ℤ, pos}
-use lib.ListN.{length, get_or, take, drop, length-append, length-take}
-use lib.Seq.{sets, length-sets, get_or-drop, drop-drop}
-use lib.Ieee.{Float}
+use Rattle.std.proofs.Common.{ℕ, zero, suc, ◌+◌, ◌*◌, ◌≤◌, ◌<◌, ◌≡◌, refl, ap, sym, ◌∙◌, Bool, true, false, cond, List, [], ◌∷◌, ◌++◌, append_assoc, arith, add-zero, le-leb, eqb, ℤ, pos, length, get_or, take, drop, length-append, length-take, get_or-drop, drop-drop, Float}
+use Rattle.std.proofs.Math.Seq.{sets, length-sets}
 use Rattle.emath.specs.declared.Rect.{Rect}
 use Rattle.region.specs.Steps.{WholeRect}
 use Rattle.grid.specs.Memories.{widths, heights}

@@ -41,7 +41,10 @@ pub fn put_refusal(out: &mut [u8], refusal: Refusal, record: usize) -> usize
 fn place(cells: &[i32], i: usize) -> i32
     ensures { result ≡ get_or cells.now i (pos 0) }
 {
-    cells.get(i).copied().unwrap_or(0)
+    if i < cells.len() {
+        return cells[i];
+    }
+    0
 }
 
 // 1 where the record at a place is a W, else 0.
@@ -118,7 +121,8 @@ pub fn put_widgets(out: &mut [u8], text: &[u8], cells: &[i32]) -> usize
     ensures { record { at = result; out = out.new } ≡ put_widgets (steps_left text.now) ((heading_in text.now).records + 1) 0 (drop (heading_in text.now).next text.now) cells.now (record { at = 0; out = out.old }) }
 {
     let h = read_heading(text);
-    put_widgets_from(out, text, cells, h.next, h.records + 1, MAX_RECORDS - h.records)
+    let records = h.records;
+    put_widgets_from(out, text, cells, h.next, records + 1, MAX_RECORDS - records)
 }
 
 // P: the plate's edges.

@@ -1,13 +1,6 @@
 -- What the record at the front of a text is: a W of the size that its fields say, a row end, another step, or wrong (RULES 6.26).
 -- Assumes nothing.
-use Prim.Native.Nat.{ℕ, ◌+◌, ◌*◌, ◌≤◌}
-use mathlib.Core.Path.{◌≡◌, refl, sym}
-use mathlib.Core.Bool.{Bool, true, false, cond, ◌&&◌, true≢false}
-use mathlib.Core.List.{List, ◌∷◌}
-use native.Mathlib.Omega.{arith}
-use lib.Dec.{eqb}
-use lib.IntN.{nat_abs}
-use lib.Ieee.{Float}
+use Rattle.std.proofs.Common.{ℕ, ◌+◌, ◌*◌, ◌≤◌, ◌≡◌, refl, sym, Bool, true, false, cond, ◌&&◌, true≢false, List, ◌∷◌, arith, eqb, nat_abs, Float}
 use Rattle.emath.specs.Steps.{tick, val}
 use Rattle.text.specs.Letters as letters
 use Rattle.text.specs.Fields.{field_at}

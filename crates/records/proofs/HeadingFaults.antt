@@ -1,8 +1,5 @@
 -- The first fault of a heading, test by test. Assumes nothing.
-use Prim.Native.Nat.{ℕ}
-use mathlib.Core.Path.{◌≡◌, sym}
-use mathlib.Core.List.{List}
-use mathlib.Core.Bool.{Bool, true, false, cond}
+use Rattle.std.proofs.Common.{ℕ, ◌≡◌, sym, List, Bool, true, false, cond}
 use Rattle.records.specs.Records.{heading_fits}
 use Rattle.records.specs.Headings.{heading_in, unit_fits, options_fit, heading_fault}
 

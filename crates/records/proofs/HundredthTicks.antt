@@ -1,15 +1,7 @@
 -- What from_hundredths works out in i32: no product, sum or quotient leaves it, and the quotient is the nearest tick. Assumes nothing.
-use Prim.Native.Nat.{ℕ, zero, suc, ◌+◌, ◌*◌, ◌/◌, ◌≤◌, zero-le}
-use mathlib.Core.Path.{◌≡◌, refl, ap, ◌∙◌}
-use mathlib.Core.Bool.{Bool, true, false, cond}
-use native.Mathlib.Omega.{arith}
-use borrow.Author.Tests.{le-ltb}
-use lib.Dec.{ltb}
-use lib.IntN.{ℤ, pos, negsuc, neg_ℤ, nat_abs, ◌+ℤ◌, ◌*ℤ◌}
-use lib.Signed.{lt_z, quot_z}
-use mir.Syntax.{w32}
-use mir.Val.{SFits, to_z, of_z}
-use mir.ValLaws.{to_z-of_z}
+use Rattle.std.proofs.Common.{ℕ, zero, suc, ◌+◌, ◌*◌, ◌/◌, ◌≤◌, zero-le, ◌≡◌, refl, ap, ◌∙◌, Bool, true, false, cond, arith, le-ltb, ltb, ℤ, pos, negsuc, neg_ℤ, nat_abs, ◌+ℤ◌, ◌*ℤ◌, w32, SFits, to_z, of_z}
+use Rattle.std.proofs.lemmas.Int.{to_z-of_z}
+use Rattle.std.specs.Int.Signed.{lt_z, quot_z}
 use Rattle.emath.specs.Steps.{tick}
 use Rattle.emath.proofs.Whole.{Within, within-unsigned_abs, sum, more-neg, less-neg, same}
 use Rattle.records.specs.Units.{nearest, from_hundredths}

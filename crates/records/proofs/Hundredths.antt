@@ -1,14 +1,5 @@
 -- Hundredths of a millimetre in steps (RULES 6.25): the nearest, in order, with the sign. For every step. Assumes nothing.
-use Prim.Native.Nat.{ℕ, zero, suc, ◌+◌, ◌*◌, ◌≤◌, ◌<◌}
-use mathlib.Core.Path.{◌≡◌, refl, ap, sym, ◌∙◌}
-use mathlib.Core.List.{List, [], ◌∷◌, map}
-use mathlib.Core.Logic.{◌⊎◌, inl, inr}
-use native.Mathlib.Omega.{arith}
-use native.Mathlib.Nat.{mul-add, mul-zero, mul-le-mul, mul-le-mul_left}
-use lib.IntN.{ℤ, pos, negsuc, neg_ℤ, nat_abs, ◌+ℤ◌, ◌*ℤ◌}
-use lib.ListN.{length}
-use lib.Pow.{pow_mono}
-use lib.Signed.{◌≤ℤ◌, ◌<ℤ◌}
+use Rattle.std.proofs.Common.{ℕ, zero, suc, ◌+◌, ◌*◌, ◌≤◌, ◌<◌, ◌≡◌, refl, ap, sym, ◌∙◌, List, [], ◌∷◌, map, ◌⊎◌, inl, inr, arith, mul-add, mul-zero, mul-le-mul, mul-le-mul_left, ℤ, pos, negsuc, neg_ℤ, nat_abs, ◌+ℤ◌, ◌*ℤ◌, length, pow_mono, ◌≤ℤ◌, ◌<ℤ◌}
 use Rattle.emath.specs.Steps.{tick}
 use Rattle.emath.proofs.Whole.{more, less, within-unsigned_abs, unsigned_abs-within, ◌≤ᶻ◌, sum, more-neg, less-neg, same, same_parts, order, lt_z→, →lt_z, whole}
 use Rattle.records.specs.declared.SizeUnit.{SizeUnit}

@@ -1,16 +1,7 @@
 -- A length of n ticks is read as exactly n / 32 points (RULES 6.6). Assumes nothing.
-use Prim.Native.Nat.{ℕ, ◌+◌, ◌*◌, ◌≤◌}
-use mathlib.Core.Path.{◌≡◌, refl, ap, sym, ◌∙◌}
-use mathlib.Core.List.{List}
-use native.Mathlib.Omega.{arith}
-use lib.IntN.{ℤ, pos, negsuc, nat_abs}
-use lib.Signed.{lt_z, non_neg}
-use lib.Dec.{T}
-use borrow.Author.Tests.{ltb-true}
-use lib.Ieee.{Float, binary32, of_bits, of_int, in_float, div, mul, in_signed, to_signed}
-use mathlib.Core.Bool.{true, false, true≢false}
-use mir.Syntax.{w32, w64}
-use mir.Val.{Fits, SFits}
+use Rattle.std.proofs.Common.{ℕ, ◌+◌, ◌*◌, ◌≤◌, ◌≡◌, refl, ap, sym, ◌∙◌, List, arith, ℤ, pos, negsuc, nat_abs, T, ltb-true, Float, true, false, true≢false, w32, w64, Fits, SFits}
+use Rattle.std.specs.Float.Ieee.{binary32, of_bits, of_int, in_float, div, mul, in_signed, to_signed}
+use Rattle.std.specs.Int.Signed.{lt_z, non_neg}
 use Rattle.emath.specs.Steps.{tick, two}
 use Rattle.emath.proofs.Whole.{within-unsigned_abs}
 use Rattle.emath.proofs.Exact.{Small}

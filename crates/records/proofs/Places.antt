@@ -1,13 +1,7 @@
 -- Where a record begins and ends in a longer text. Assumes nothing.
-use Prim.Native.Nat.{ℕ, zero, suc, ◌+◌, ◌-◌, ◌*◌, ◌≤◌, ◌<◌, min}
-use mathlib.Core.Path.{◌≡◌, ap, sym, ◌∙◌}
-use mathlib.Core.List.{List, [], ◌∷◌}
-use mathlib.Core.Bool.{Bool, true, false, cond}
-use native.Mathlib.Omega.{arith}
-use native.Mathlib.Nat.{add-zero, min-eq_left, min-eq_right, min-le_right, zero-min, suc-min-suc}
-use lib.Dec.{eqb}
-use lib.ListN.{length, get_or, take, drop, length-drop, drop_of_length-le}
-use lib.Seq.{get_or-drop, drop-drop, drop-nil, take_all}
+use Rattle.std.proofs.Common.{ℕ, zero, suc, ◌+◌, ◌-◌, ◌*◌, ◌≤◌, ◌<◌, min, ◌≡◌, ap, sym, ◌∙◌, List, [], ◌∷◌, Bool, true, false, cond, arith, add-zero, eqb, length, get_or, take, drop, length-drop, drop_of_length-le, get_or-drop, drop-drop, take_all}
+use Rattle.std.proofs.Math.Nat.{min-eq_left, min-eq_right, min-le_right, zero-min, suc-min-suc}
+use Rattle.std.proofs.Math.Seq.{drop-nil}
 use Rattle.text.specs.Letters as letters
 use Rattle.records.specs.Parts.{letter}
 use Rattle.records.specs.Records.{Record}

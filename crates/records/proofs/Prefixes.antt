@@ -1,15 +1,8 @@
 -- RULES 6.23: no record has more than 98 bytes, which H has; so whether 1 to 3 apply to a text that is longer than 512 of them shows in
 -- its first 50,177 bytes. Assumes nothing.
-use Prim.Native.Nat.{ℕ, zero, suc, ◌+◌, ◌-◌, ◌*◌, ◌≤◌, ◌<◌}
-use mathlib.Core.Path.{◌≡◌, refl, ap, sym, ◌∙◌}
-use mathlib.Core.List.{List, [], ◌∷◌}
-use mathlib.Core.Bool.{Bool, true, false, cond}
-use native.Mathlib.Omega.{arith}
-use native.Mathlib.Nat.{min-eq_left, min-le_left}
-use borrow.Author.Tests.{leb-true, leb-false}
-use lib.Dec.{leb, eqb}
-use lib.ListN.{length, take, drop, length-drop}
-use lib.Seq.{take-nil, take_all, length-take-le}
+use Rattle.std.proofs.Common.{ℕ, zero, suc, ◌+◌, ◌-◌, ◌*◌, ◌≤◌, ◌<◌, ◌≡◌, refl, ap, sym, ◌∙◌, List, [], ◌∷◌, Bool, true, false, cond, arith, leb-true, leb-false, leb, eqb, length, take, drop, length-drop, take_all, length-take-le}
+use Rattle.std.proofs.Math.Nat.{min-eq_left, min-le_left}
+use Rattle.std.proofs.Math.Seq.{take-nil}
 use Rattle.emath.specs.Numbers as number
 use Rattle.text.specs.Letters as letters
 use Rattle.records.specs.declared.SizeUnit.{SizeUnit}

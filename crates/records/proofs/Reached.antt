@@ -1,15 +1,7 @@
 -- The check of a whole sheet, record by record: what is known where k records have been read, w of them W, and what each return answers.
 -- Assumes nothing.
-use Prim.Native.Nat.{ℕ, zero, suc, ◌+◌, ◌-◌, ◌*◌, ◌≤◌, ◌<◌}
-use mathlib.Core.Path.{◌≡◌, refl, ap, sym, ◌∙◌}
-use mathlib.Core.List.{List, [], ◌∷◌}
-use mathlib.Core.Bool.{Bool, true, false, cond, true≢false}
-use native.Mathlib.Omega.{arith}
-use native.Mathlib.Nat.{zero-add}
-use borrow.Author.Tests.{ne_eqb}
-use lib.Dec.{eqb, ltb}
-use lib.ListN.{length, drop, length-drop, drop_of_length-le}
-use lib.Seq.{drop-nil}
+use Rattle.std.proofs.Common.{ℕ, zero, suc, ◌+◌, ◌-◌, ◌*◌, ◌≤◌, ◌<◌, ◌≡◌, refl, ap, sym, ◌∙◌, List, [], ◌∷◌, Bool, true, false, cond, true≢false, arith, zero-add, ne_eqb, eqb, ltb, length, drop, length-drop, drop_of_length-le}
+use Rattle.std.proofs.Math.Seq.{drop-nil}
 use Rattle.emath.specs.Numbers as number
 use Rattle.emath.specs.Refusals.{or_else}
 use Rattle.records.specs.Records.{Record}

@@ -1,15 +1,8 @@
 -- The cache of W sizes: what the array holds as the check goes through a text, and that after it each W of an accepted sheet has its size
 -- there. Assumes nothing.
-use Prim.Native.Nat.{ℕ, zero, suc, ◌+◌, ◌-◌, ◌≤◌, ◌<◌}
-use mathlib.Core.Path.{◌≡◌, refl, ap, sym, ◌∙◌}
-use mathlib.Core.List.{List, [], ◌∷◌}
-use mathlib.Core.Bool.{Bool, true, false, cond, ◌&&◌, true≢false}
-use native.Mathlib.Omega.{arith}
-use borrow.Author.Tests.{ne_eqb}
-use lib.Dec.{eqb}
-use lib.ListN.{length, get_or, set, drop, length-set, length-drop, drop_of_length-le}
-use lib.Seq.{get_or-set_same, get_or-set_other, drop-nil}
-use lib.Ieee.{Float, nan}
+use Rattle.std.proofs.Common.{ℕ, zero, suc, ◌+◌, ◌-◌, ◌≤◌, ◌<◌, ◌≡◌, refl, ap, sym, ◌∙◌, List, [], ◌∷◌, Bool, true, false, cond, ◌&&◌, true≢false, arith, ne_eqb, eqb, length, get_or, set, drop, length-set, length-drop, drop_of_length-le, get_or-set_same, get_or-set_other, Float}
+use Rattle.std.proofs.Math.Seq.{drop-nil}
+use Rattle.std.specs.Float.{nan}
 use Rattle.records.specs.declared.Heading.{Heading as HeadingOf}
 use Rattle.records.specs.declared.Step.{Step}
 use Rattle.records.specs.declared.Step.TheVariants.{Widget, Space, RowHeight, MaxWidth, MaxHeight, MinWidth, MinHeight, RowEnd}

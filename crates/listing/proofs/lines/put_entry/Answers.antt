@@ -1,11 +1,6 @@
-use mir.Facts.{to_z_pos}
-use mir.Val.{to_z}
-use mir.Syntax.{w32}
-use mathlib.Core.Path.{◌≡◌}
-use native.Mathlib.Omega.{arith}
+use Rattle.std.proofs.Common.{to_z, w32, ◌≡◌, arith, pos, rules}
+use Rattle.std.proofs.Math.Facts.{to_z_pos}
 use Rattle.text.proofs.Signs.{Same}
-use lib.IntN.{pos}
-use borrow.Author.Rules.{rules}
 use Rattle.listing.proofs.lines.put_entry.Goals as goal
 
 pub returns : goal.returns

@@ -1,5 +1,5 @@
+use Rattle.std.proofs.Common.{rules}
 use Rattle.listing.proofs.Puts.{line-fits, line-put}
-use borrow.Author.Rules.{rules}
 use Rattle.listing.proofs.lines.put_line.Goals as goal
 
 pub overflow_add-result-then-write_line : goal.overflow_add-result-then-write_line

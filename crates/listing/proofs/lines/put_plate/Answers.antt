@@ -1,5 +1,5 @@
+use Rattle.std.proofs.Common.{rules}
 use Rattle.text.proofs.Signs.{Same}
-use borrow.Author.Rules.{rules}
 use Rattle.listing.proofs.lines.put_plate.Goals as goal
 
 pub returns : goal.returns

@@ -1,7 +1,5 @@
-use Rattle.std.proofs.Common.{◌≡◌, pos, arith}
-use mir.Facts.{to_z_pos}
-use mir.Val.{to_z}
-use mir.Syntax.{w32}
+use Rattle.std.proofs.Common.{◌≡◌, pos, arith, to_z, w32}
+use Rattle.std.proofs.Math.Facts.{to_z_pos}
 use Rattle.emath.specs.Refusals.{number_of}
 use Rattle.listing.proofs.lines.put_refusal.Goals as goal
 

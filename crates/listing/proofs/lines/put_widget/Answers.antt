@@ -1,13 +1,7 @@
-use mir.Facts.{to_z_pos}
-use mir.Val.{to_z}
-use mir.Syntax.{w32}
-use mathlib.Core.Path.{◌≡◌}
-use native.Mathlib.Omega.{arith}
+use Rattle.std.proofs.Common.{to_z, w32, ◌≡◌, arith, pos, eq-eqb, ne_eqb, rules}
+use Rattle.std.proofs.Math.Facts.{to_z_pos}
 use Rattle.text.proofs.Signs.{Same}
-use lib.IntN.{pos}
-use borrow.Author.Tests.{eq-eqb, ne_eqb}
 use Rattle.listing.specs.Implementation.ListWriter.{put_widget}
-use borrow.Author.Rules.{rules}
 use Rattle.listing.proofs.lines.put_widget.Goals as goal
 
 pub returns-then-here-eq0 : goal.returns-then-here-eq0

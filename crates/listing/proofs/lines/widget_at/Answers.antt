@@ -1,5 +1,5 @@
+use Rattle.std.proofs.Common.{arith}
 use Rattle.listing.proofs.Puts.{marked, not-marked, none-marked}
-use native.Mathlib.Omega.{arith}
 use Rattle.listing.proofs.lines.widget_at.Goals as goal
 
 pub returns-then-text-at-eq87 : goal.returns-then-text-at-eq87

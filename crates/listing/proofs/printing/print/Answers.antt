@@ -1,11 +1,8 @@
-use native.Mathlib.Omega.{arith}
+use Rattle.std.proofs.Common.{arith, length, ◌≡◌, refl, rules}
 use Rattle.listing.proofs.Puts.{passed-within}
 use Rattle.listing.specs.Lists.{list_of}
-use lib.ListN.{length}
-use mathlib.Core.Path.{◌≡◌, refl}
 use Rattle.listing.proofs.Printed.{in-slice}
 use Rattle.listing.proofs.Settled.{settled-prints, settled-list}
-use borrow.Author.Rules.{rules}
 use Rattle.listing.proofs.printing.print.Goals as goal
 
 pub put_passed-requires : goal.put_passed-requires

@@ -1,4 +1,4 @@
-use mathlib.Core.Path.{ap, ◌∙◌}
+use Rattle.std.proofs.Common.{ap, ◌∙◌}
 use Rattle.sheet.specs.Ticks.{in_ticks}
 use Rattle.sheet.specs.Slices.{edges}
 use Rattle.listing.specs.Implementation.ListWriter.{Put, put_line, put_memory, put_accepted}

@@ -1,4 +1,4 @@
-use native.Mathlib.Omega.{arith}
+use Rattle.std.proofs.Common.{arith}
 use Rattle.sheet.specs.Slices.{laid_number}
 use Rattle.listing.specs.Implementation.ListWriter.{printable, put_passed}
 use Rattle.listing.proofs.printing.put_passed.Goals as goal

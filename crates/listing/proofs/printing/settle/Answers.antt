@@ -1,5 +1,5 @@
+use Rattle.std.proofs.Common.{refl}
 use Rattle.listing.proofs.Settled.{again, known-again, once, laid-ok}
-use mathlib.Core.Path.{refl}
 use Rattle.listing.proofs.printing.settle.Goals as goal
 
 pub pass_cached-requires : goal.pass_cached-requires

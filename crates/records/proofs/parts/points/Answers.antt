@@ -1,5 +1,5 @@
-use mir.ValLaws.{to_z-of_z}
-use mir.Syntax.{w32}
+use Rattle.std.proofs.Common.{w32}
+use Rattle.std.proofs.lemmas.Int.{to_z-of_z}
 use Rattle.records.proofs.Lengths.{casts, divided}
 use Rattle.records.proofs.parts.points.Goals as goal
 

@@ -1,9 +1,6 @@
-use mathlib.Core.Path.{◌≡◌}
-use mir.Val.{to_z, of_z}
-use mir.Syntax.{w32}
+use Rattle.std.proofs.Common.{◌≡◌, to_z, of_z, w32, rules}
 use Rattle.records.specs.Parts.{measured}
 use Rattle.records.proofs.Lengths.{few-ticks, size_is}
-use borrow.Author.Rules.{rules}
 use Rattle.records.proofs.parts.size.Goals as goal
 
 pub in_steps-requires : goal.in_steps-requires

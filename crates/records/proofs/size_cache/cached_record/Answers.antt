@@ -1,4 +1,4 @@
-use mathlib.Core.Path.{sym, ◌∙◌}
+use Rattle.std.proofs.Common.{sym, ◌∙◌}
 use Rattle.records.specs.Records.{record_at}
 use Rattle.records.proofs.Places.{letter_at}
 use Rattle.records.proofs.size_cache.cached_record.Goals as goal

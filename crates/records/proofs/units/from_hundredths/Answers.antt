@@ -1,4 +1,4 @@
-use native.Mathlib.Omega.{arith}
+use Rattle.std.proofs.Common.{arith}
 use Rattle.records.proofs.HundredthTicks.{product-fits, sum_fits, quotient_fits, quotient_is}
 use Rattle.records.proofs.units.from_hundredths.Goals as goal
 

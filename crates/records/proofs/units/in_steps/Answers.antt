@@ -1,10 +1,7 @@
-use mathlib.Core.Path.{◌≡◌}
-use mir.Syntax.{w32}
-use mir.Val.{to_z, of_z}
-use mir.ValLaws.{to_z-of_z}
+use Rattle.std.proofs.Common.{◌≡◌, w32, to_z, of_z, rules}
+use Rattle.std.proofs.lemmas.Int.{to_z-of_z}
 use Rattle.records.specs.Units.{in_steps}
 use Rattle.records.proofs.Hundredths.{few-steps}
-use borrow.Author.Rules.{rules}
 use Rattle.records.proofs.units.in_steps.Goals as goal
 
 pub from_hundredths-requires : goal.from_hundredths-requires

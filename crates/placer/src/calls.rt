@@ -19,14 +19,23 @@ use region::faults::region_fault;
 use region::{Region, regions};
 
 // A call that sets the region anew; `before` is its arguments' fault.
-fn settled(placer: PlacerSettings, state: PassState, before: Option<Refusal>, region: Region) -> Result<PassState, Refusal>
+fn settled(
+    placer: PlacerSettings,
+    state: PassState,
+    before: Option<Refusal>,
+    region: Region,
+) -> Result<PassState, Refusal>
     ensures { (pw ph ws hs : List Float) → placer_fault (placer_of placer state pw ph ws hs) ≡ 0 → answer_of placer state result pw ph ws hs ≡ changed_placer (least (placer_fault (placer_of placer state pw ph ws hs) ∷ fault_number before ∷ [])) (placer_of placer state pw ph ws hs) (with_region (placer_of placer state pw ph ws hs) region) }
 {
     let after = outside_domain(region_fault(placer.layout.main_dir, region));
     answer(before.or(after), PassState { region, ..state })
 }
 
-pub fn advance_cursor(placer: PlacerSettings, state: PassState, amount: f32) -> Result<PassState, Refusal>
+pub fn advance_cursor(
+    placer: PlacerSettings,
+    state: PassState,
+    amount: f32,
+) -> Result<PassState, Refusal>
     ensures { (pw ph ws hs : List Float) → placer_fault (placer_of placer state pw ph ws hs) ≡ 0 → answer_of placer state result pw ph ws hs ≡ checked_advance_cursor (placer_of placer state pw ph ws hs) amount }
 {
     let before = first_of(
@@ -41,7 +50,11 @@ pub fn advance_cursor(placer: PlacerSettings, state: PassState, amount: f32) -> 
     )
 }
 
-pub fn set_row_height(placer: PlacerSettings, state: PassState, height: f32) -> Result<PassState, Refusal>
+pub fn set_row_height(
+    placer: PlacerSettings,
+    state: PassState,
+    height: f32,
+) -> Result<PassState, Refusal>
     ensures { (pw ph ws hs : List Float) → placer_fault (placer_of placer state pw ph ws hs) ≡ 0 → answer_of placer state result pw ph ws hs ≡ checked_set_row_height (placer_of placer state pw ph ws hs) height }
 {
     settled(
@@ -52,7 +65,11 @@ pub fn set_row_height(placer: PlacerSettings, state: PassState, height: f32) -> 
     )
 }
 
-pub fn set_max_width(placer: PlacerSettings, state: PassState, width: f32) -> Result<PassState, Refusal>
+pub fn set_max_width(
+    placer: PlacerSettings,
+    state: PassState,
+    width: f32,
+) -> Result<PassState, Refusal>
     ensures { (pw ph ws hs : List Float) → placer_fault (placer_of placer state pw ph ws hs) ≡ 0 → answer_of placer state result pw ph ws hs ≡ checked_set_max_width tick (placer_of placer state pw ph ws hs) width }
 {
     settled(
@@ -63,7 +80,11 @@ pub fn set_max_width(placer: PlacerSettings, state: PassState, width: f32) -> Re
     )
 }
 
-pub fn set_max_height(placer: PlacerSettings, state: PassState, height: f32) -> Result<PassState, Refusal>
+pub fn set_max_height(
+    placer: PlacerSettings,
+    state: PassState,
+    height: f32,
+) -> Result<PassState, Refusal>
     ensures { (pw ph ws hs : List Float) → placer_fault (placer_of placer state pw ph ws hs) ≡ 0 → answer_of placer state result pw ph ws hs ≡ checked_set_max_height tick (placer_of placer state pw ph ws hs) height }
 {
     settled(
@@ -74,7 +95,11 @@ pub fn set_max_height(placer: PlacerSettings, state: PassState, height: f32) -> 
     )
 }
 
-pub fn set_min_width(placer: PlacerSettings, state: PassState, width: f32) -> Result<PassState, Refusal>
+pub fn set_min_width(
+    placer: PlacerSettings,
+    state: PassState,
+    width: f32,
+) -> Result<PassState, Refusal>
     ensures { (pw ph ws hs : List Float) → placer_fault (placer_of placer state pw ph ws hs) ≡ 0 → answer_of placer state result pw ph ws hs ≡ checked_set_min_width tick (placer_of placer state pw ph ws hs) width }
 {
     settled(
@@ -85,7 +110,11 @@ pub fn set_min_width(placer: PlacerSettings, state: PassState, width: f32) -> Re
     )
 }
 
-pub fn set_min_height(placer: PlacerSettings, state: PassState, height: f32) -> Result<PassState, Refusal>
+pub fn set_min_height(
+    placer: PlacerSettings,
+    state: PassState,
+    height: f32,
+) -> Result<PassState, Refusal>
     ensures { (pw ph ws hs : List Float) → placer_fault (placer_of placer state pw ph ws hs) ≡ 0 → answer_of placer state result pw ph ws hs ≡ checked_set_min_height tick (placer_of placer state pw ph ws hs) height }
 {
     settled(
@@ -97,7 +126,12 @@ pub fn set_min_height(placer: PlacerSettings, state: PassState, height: f32) -> 
 }
 
 // In a grid.
-fn row_ended(placer: PlacerSettings, state: PassState, before: Option<Refusal>, heights: &[f32]) -> Result<PassState, Refusal>
+fn row_ended(
+    placer: PlacerSettings,
+    state: PassState,
+    before: Option<Refusal>,
+    heights: &[f32],
+) -> Result<PassState, Refusal>
     ensures { (pw ph ws : List Float) (sp : Spacing) → placer.has_grid ≡ true → placer_fault (placer_of placer state pw ph ws heights.now) ≡ 0 → answer_of placer state result pw ph ws heights.now ≡ changed_placer (least (placer_fault (placer_of placer state pw ph ws heights.now) ∷ fault_number before ∷ [])) (placer_of placer state pw ph ws heights.now) (end_row (placer_of placer state pw ph ws heights.now) sp) }
 {
     let region = regions::with_cursor(

@@ -102,12 +102,7 @@ fn cursor_past(
     ensures { (ph ws hs : List Float) → result ≡ (moved_past (placer_of placer state prev_widths.now ph ws hs) frame_rect widget_rect item_spacing).region.cursor }
 {
     if placer.has_grid {
-        return lent::advanced_cursor(
-            placer.grid,
-            state.grid,
-            prev_widths,
-            state.region.cursor,
-        );
+        return lent::advanced_cursor(placer.grid, state.grid, prev_widths, state.region.cursor);
     }
     cursors::advance_after_rects(
         placer.layout,

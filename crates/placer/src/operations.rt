@@ -48,10 +48,7 @@ impl Placer {
         ensures { placer_outcome self result ≡ checked_force_set_min_rect self min_rect }
     {
         let new = rules::force_set_min_rect(self, min_rect);
-        changed_placer(
-            first_of(placer_fault(self), rect_fault(min_rect)),
-            new,
-        )
+        changed_placer(first_of(placer_fault(self), rect_fault(min_rect)), new)
     }
 
     pub fn set_cursor(self, cursor: Rect) -> Result<Placer, Refusal>
@@ -59,7 +56,10 @@ impl Placer {
     {
         let new = rules::set_cursor(self, cursor);
         changed_placer(
-            first_of(placer_fault(self), cursor_fault(self.layout.main_dir, cursor)),
+            first_of(
+                placer_fault(self),
+                cursor_fault(self.layout.main_dir, cursor),
+            ),
             new,
         )
     }
@@ -165,40 +165,28 @@ impl Placer {
         ensures { placer_outcome self result ≡ checked_set_row_height self height }
     {
         let new = rules::set_row_height(self, height);
-        changed_placer(
-            first_of(placer_fault(self), length_fault(height)),
-            new,
-        )
+        changed_placer(first_of(placer_fault(self), length_fault(height)), new)
     }
 
     pub fn expand_to_include_rect(self, rect: Rect) -> Result<Placer, Refusal>
         ensures { placer_outcome self result ≡ checked_expand_to_include_rect self rect }
     {
         let new = rules::expand_to_include_rect(self, rect);
-        changed_placer(
-            first_of(placer_fault(self), rect_fault(rect)),
-            new,
-        )
+        changed_placer(first_of(placer_fault(self), rect_fault(rect)), new)
     }
 
     pub fn expand_to_include_x(self, x: f32) -> Result<Placer, Refusal>
         ensures { placer_outcome self result ≡ checked_expand_to_include_x self x }
     {
         let new = rules::expand_to_include_x(self, x);
-        changed_placer(
-            first_of(placer_fault(self), length_fault(x)),
-            new,
-        )
+        changed_placer(first_of(placer_fault(self), length_fault(x)), new)
     }
 
     pub fn expand_to_include_y(self, y: f32) -> Result<Placer, Refusal>
         ensures { placer_outcome self result ≡ checked_expand_to_include_y self y }
     {
         let new = rules::expand_to_include_y(self, y);
-        changed_placer(
-            first_of(placer_fault(self), length_fault(y)),
-            new,
-        )
+        changed_placer(first_of(placer_fault(self), length_fault(y)), new)
     }
 
     pub fn next_widget_space_ignore_wrap_justify(self, size: Vec2) -> Result<Rect, Refusal>
@@ -213,39 +201,27 @@ impl Placer {
         ensures { placer_outcome self result ≡ checked_set_max_width tick self width }
     {
         let new = limits::set_max_width(self, width);
-        changed_placer(
-            first_of(placer_fault(self), extent_fault(width)),
-            new,
-        )
+        changed_placer(first_of(placer_fault(self), extent_fault(width)), new)
     }
 
     pub fn set_max_height(self, height: f32) -> Result<Placer, Refusal>
         ensures { placer_outcome self result ≡ checked_set_max_height tick self height }
     {
         let new = limits::set_max_height(self, height);
-        changed_placer(
-            first_of(placer_fault(self), extent_fault(height)),
-            new,
-        )
+        changed_placer(first_of(placer_fault(self), extent_fault(height)), new)
     }
 
     pub fn set_min_width(self, width: f32) -> Result<Placer, Refusal>
         ensures { placer_outcome self result ≡ checked_set_min_width tick self width }
     {
         let new = limits::set_min_width(self, width);
-        changed_placer(
-            first_of(placer_fault(self), length_fault(width)),
-            new,
-        )
+        changed_placer(first_of(placer_fault(self), length_fault(width)), new)
     }
 
     pub fn set_min_height(self, height: f32) -> Result<Placer, Refusal>
         ensures { placer_outcome self result ≡ checked_set_min_height tick self height }
     {
         let new = limits::set_min_height(self, height);
-        changed_placer(
-            first_of(placer_fault(self), length_fault(height)),
-            new,
-        )
+        changed_placer(first_of(placer_fault(self), length_fault(height)), new)
     }
 }

@@ -1,4 +1,8 @@
 // Crate emath's numbers, rounding, domain and numbers of refusal.
+ghost use Rattle.std.specs.Prelude.{◌≡◌, ◌≤◌, false};
+ghost use Rattle.std.specs.Float.{inf, nan};
+ghost use Rattle.emath.specs.Refusals.{when, lesser, or_else, outside, fault_number as number_of_fault};
+
 use emath::faults::{
     edges_fault, extent_fault, first_of, length_fault, outside_domain, pair_fault, rect_fault,
     size_fault,
@@ -33,12 +37,16 @@ pub extern "C" fn emath_num_fast_midpoint(a: f32, b: f32) -> f32 {
 }
 
 #[unsafe(no_mangle)]
-pub extern "C" fn emath_num_infinity() -> f32 {
+pub extern "C" fn emath_num_infinity() -> f32
+    ensures { result ≡ inf false }
+{
     f32::INFINITY
 }
 
 #[unsafe(no_mangle)]
-pub extern "C" fn emath_num_nan() -> f32 {
+pub extern "C" fn emath_num_nan() -> f32
+    ensures { result ≡ nan }
+{
     f32::NAN
 }
 
@@ -88,23 +96,27 @@ pub extern "C" fn emath_vec2_is_negative(x: f32, y: f32) -> bool {
     v.is_negative()
 }
 
-// Of any byte, what emath::faults does of refusals by the methods of bool and Option.
-fn counted(n: u8) -> Option<u8> {
-    (n != 0).then_some(n)
+// These four are of any byte, where emath's own are of refusals.
+#[unsafe(no_mangle)]
+pub extern "C" fn emath_faults_number_when(b: bool, n: u8) -> u8
+    ensures { result ≡ when b n }
+{
+    if b { n } else { 0 }
 }
 
 #[unsafe(no_mangle)]
-pub extern "C" fn emath_faults_number_when(b: bool, n: u8) -> u8 {
-    b.then_some(n).unwrap_or(0)
+#[tactic(auto, unfolding(emath::specs::Refusals::or_else))]
+pub extern "C" fn emath_faults_or_else(n: u8, m: u8) -> u8
+    ensures { result ≡ or_else n m }
+{
+    if n == 0 { m } else { n }
 }
 
-#[unsafe(no_mangle)]
-pub extern "C" fn emath_faults_or_else(n: u8, m: u8) -> u8 {
-    counted(n).or(counted(m)).unwrap_or(0)
-}
-
-// The refusal of this number: none of 0, nor beyond 9. No TryFrom: neither type is of this crate.
-fn refusal_of(n: u8) -> Option<Refusal> {
+// The refusal of this number: none of 0. No TryFrom: neither type is of this crate.
+fn refusal_of(n: u8) -> Option<Refusal>
+    requires { n ≤ 9 }
+    ensures { number_of_fault result ≡ n }
+{
     match n {
         1 => Some(Refusal::Malformed),
         2 => Some(Refusal::TooLong),
@@ -119,16 +131,20 @@ fn refusal_of(n: u8) -> Option<Refusal> {
     }
 }
 
-// Where a byte is no refusal's number, the same of the bytes.
 #[unsafe(no_mangle)]
-pub extern "C" fn emath_faults_lesser_number(a: u8, b: u8) -> u8 {
+pub extern "C" fn emath_faults_lesser_number(a: u8, b: u8) -> u8
+    ensures { result ≡ lesser a b }
+{
     if a <= 9 && b <= 9 {
         return fault_number(first_of(refusal_of(a), refusal_of(b)));
     }
-    match (counted(a), counted(b)) {
-        (Some(x), Some(y)) => x.min(y),
-        (x, y) => x.or(y).unwrap_or(0),
+    if a == 0 {
+        return b;
     }
+    if b == 0 {
+        return a;
+    }
+    if a < b { a } else { b }
 }
 
 #[unsafe(no_mangle)]
@@ -161,8 +177,13 @@ pub extern "C" fn emath_faults_rect_fault(r: &[f32; 4]) -> u8 {
     fault_number(rect_fault(rect_of(r)))
 }
 
-// Any fault there is has one answer, so a byte beyond 9 stands for the last.
+// A byte beyond 9 stands for the last: whatever the fault, the answer is one.
 #[unsafe(no_mangle)]
-pub extern "C" fn emath_faults_outside_domain(n: u8) -> u8 {
-    fault_number(outside_domain(refusal_of(n.min(9))))
+pub extern "C" fn emath_faults_outside_domain(n: u8) -> u8
+    ensures { result ≡ outside n }
+{
+    if n <= 9 {
+        return fault_number(outside_domain(refusal_of(n)));
+    }
+    fault_number(outside_domain(Some(Refusal::Outside)))
 }

@@ -36,7 +36,8 @@ fn clear(xs: &mut [f32], from: usize, to: usize)
     }
 }
 
-// The entry at `i` made at least `w`; entries that are new before it are 0. How many are counted then.
+// The entry at `i` made at least `w`; entries that are new before it are 0. How many are counted then. It writes beyond
+// the first `n`, so it takes the array.
 pub fn raise(xs: &mut [f32], n: usize, i: usize, w: f32) -> usize
     requires { i < length xs.old }
     ensures array { xs.new ≡ raised xs.old n i w }

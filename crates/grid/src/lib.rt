@@ -75,7 +75,7 @@ pub struct Moved {
     pub cursor: Rect,
 }
 
-// What a pass gives back: the memory, and whether it is to be saved.
+// What a pass gives back: the memory, and whether it is to be saved. No Option: it is the grid's either way (RULES 3.15).
 #[derive(Clone, Copy)]
 pub struct Saved {
     pub memory: Memory,

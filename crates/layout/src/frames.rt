@@ -26,7 +26,8 @@ fn overflows_main(main_dir: Direction, available: Rect, region: Region, child_si
     }
 }
 
-// From min_rect's bottom and not the cursor's: tighter packing.
+// From min_rect's bottom and not the cursor's: tighter packing. A row and a column stay two, as in egui: over an axis, each of their fields
+// would take a choice.
 fn new_row(region: Region, child_size: Vec2, spacing: Vec2) -> Rangef
     ensures { result ≡ new_row region child_size spacing }
 {

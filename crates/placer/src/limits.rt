@@ -14,7 +14,7 @@ use layout::widgets::next_widget_space_ignore_wrap_justify;
 use region::Region;
 use region::regions::{expand_to_include_x, expand_to_include_y};
 
-// Not below min_rect.
+// Not below min_rect. Across and down stay two, here and below: over an axis, each of their fields would take a choice.
 fn limited_across(region: Region, rect: Rect) -> Region
     ensures { result ≡ limited_across region rect }
 {

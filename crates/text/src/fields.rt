@@ -146,7 +146,8 @@ pub(crate) fn put_signed(out: &mut [u8], at: usize, z: i32)
     put_text(&mut out[at..at + 8], z);
 }
 
-// Writes z in the eight columns from `at`, where it has a text and they are there; else nothing is written, and the answer is false.
+// Writes z in the eight columns from `at`, where it has a text and they are there; else nothing is written, and the answer is false: why makes
+// no difference to a caller.
 pub fn write_field(out: &mut [u8], at: usize, z: i32) -> bool
     ensures { (result, out.new) ≡ written_at out.old at z }
 {

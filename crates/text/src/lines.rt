@@ -35,7 +35,8 @@ fn put_line(out: &mut [u8], at: usize, letter: u8, numbers: &[i32])
     out[at + 1 + 8 * n] = b'\n';
 }
 
-// Writes a line from `at`, where it has room and each number a text; else nothing is written, and the answer is false.
+// Writes a line from `at`, where it has room and each number a text; else nothing is written, and the answer is false: why
+// makes no difference to a caller.
 pub fn write_line(out: &mut [u8], at: usize, letter: u8, numbers: &[i32]) -> bool
     ensures { (result, out.new) ≡ line_at out.old at letter numbers.now }
 {

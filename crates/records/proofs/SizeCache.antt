@@ -38,7 +38,7 @@ unfoldable pub stored : List Float → ℕ → Record → List Float
 stored ss n (Steps st) = stored_step ss n st
 stored ss n Wrong = ss
 
-pub stored-length : (ss : List Float) (n : ℕ) (r : Record) → length (stored ss n r) ≡ length ss
+stored-length : (ss : List Float) (n : ℕ) (r : Record) → length (stored ss n r) ≡ length ss
 unfolding stored
 stored-length ss n (Steps st) = step-length ss n st
 stored-length ss n Wrong = refl

@@ -54,6 +54,7 @@ fn put_rest(lengths: &mut [f32; 10], counts: &mut [usize; 12], h: Heading) {
     counts[10] = h.next;
 }
 
+// From the flag that C gives.
 fn unit_of(hundredths: bool) -> SizeUnit {
     if hundredths {
         SizeUnit::Hundredths

@@ -1,6 +1,6 @@
 -- The cache of W sizes: what the array holds as the check goes through a text, and that after it each W of an accepted sheet has its size
 -- there. Assumes nothing.
-use Rattle.std.proofs.Common.{ℕ, zero, suc, ◌+◌, ◌-◌, ◌≤◌, ◌<◌, ◌≡◌, refl, ap, sym, ◌∙◌, List, [], ◌∷◌, Bool, true, false, cond, ◌&&◌, true≢false, arith, ne_eqb, eqb, length, get_or, set, drop, length-set, length-drop, drop_of_length-le, get_or-set_same, get_or-set_other, Float}
+use Rattle.std.proofs.Common.{ℕ, zero, suc, ◌+◌, ◌-◌, ◌≤◌, ◌<◌, ◌≡◌, refl, ap, sym, ◌∙◌, List, [], ◌∷◌, Bool, true, false, cond, ◌&&◌, true≢false, arith, ne_eqb, length, get_or, set, drop, length-set, length-drop, drop_of_length-le, get_or-set_same, get_or-set_other, Float}
 use Rattle.std.proofs.Math.Seq.{drop-nil}
 use Rattle.std.specs.Float.{nan}
 use Rattle.records.specs.declared.Heading.{Heading as HeadingOf}
@@ -14,7 +14,7 @@ use Rattle.records.specs.Parts.{letter, ends, size_in, is_length, length_value}
 use Rattle.records.specs.Records.{step_record, widget_record, record_of, record_at, size, rest, next_at}
 use Rattle.text.specs.Letters as letters
 use Rattle.records.specs.Headings.{heading_in, heading_fault}
-use Rattle.records.specs.Sheets.{records_from, steps_left, records, wrong_from, checked}
+use Rattle.records.specs.Sheets.{records_from, steps_left, wrong_from, checked}
 use Rattle.records.specs.Implementation.SizeCache.{stored_step, cached_from, cached_by, IsCached, AreCached, CachedIn}
 use Rattle.records.proofs.Places.{next-is-rest}
 use Rattle.records.proofs.Reached.{is_step, records-few, records-step, step-on, stops, none_left, no_more}
@@ -38,7 +38,7 @@ unfoldable pub stored : List Float → ℕ → Record → List Float
 stored ss n (Steps st) = stored_step ss n st
 stored ss n Wrong = ss
 
-pub stored-length : (ss : List Float) (n : ℕ) (r : Record) → length (stored ss n r) ≡ length ss
+stored-length : (ss : List Float) (n : ℕ) (r : Record) → length (stored ss n r) ≡ length ss
 unfolding stored
 stored-length ss n (Steps st) = step-length ss n st
 stored-length ss n Wrong = refl
@@ -88,12 +88,6 @@ is-cached m u ss n p l h = go (is_length (size_in m u 0) && is_length (size_in m
     go false x y e = absurd (no_step (ap (λ (r : Record). is_step r) (sym e) ∙ p))
 
 -- ---- all records
-cached-length : (n : ℕ) (rs : List Record) (ss : List Float) → length (cached_from n rs ss) ≡ length ss
-unfolding cached_from
-cached-length n [] ss = refl
-cached-length n (Steps st ∷ rs) ss = cached-length (n + 1) rs (stored_step ss n st) ∙ step-length ss n st
-cached-length n (Wrong ∷ rs) ss = refl
-
 cached-below : (rs : List Record) (ss : List Float) (n m : ℕ) → m < n → n + length rs ≤ 513 → Same (cached_from n rs ss) ss m
 unfolding cached_from
 cached-below [] ss n m h l = (refl, refl)
@@ -149,14 +143,6 @@ cached-in s room k w ss l e =
     let c = clear s room k w e in
     let few = few-records s in
     rw c.heading (all-cached (heading_in s).unit (steps_left s) (drop (heading_in s).next s) ss ((heading_in s).records + 1) (omega arith) c.steps (omega (arith, few)) l)
-
-pub cached-by-length : (s : List ℕ) (ss : List Float) → length (cached_by s ss) ≡ length ss
-unfolding cached_by
-cached-by-length s ss = go (eqb (heading_fault s) 0)
-  where
-    go : (b : Bool) → length (cond b (cached_from ((heading_in s).records + 1) (records s) ss) ss) ≡ length ss
-    go true = cached-length ((heading_in s).records + 1) (records s) ss
-    go false = refl
 
 -- ---- as the check goes through a text
 pub not-cached : (s : List ℕ) (ss : List Float) (f : ℕ) → f ≡ heading_fault s → (f ≡ 0 → ⊥) → ss ≡ cached_by s ss

@@ -21,6 +21,8 @@ pub const MAX_RECORDS: usize = 512;
 // The cache of W sizes: two places for each record, from record 1 on; place 0 and place 513 stay free.
 pub const CACHE_LEN: usize = 1026;
 
+pub type SizeCache = [f32; CACHE_LEN];
+
 // What G says.
 #[derive(Clone, Copy)]
 pub struct GridOptions {
@@ -49,7 +51,7 @@ pub struct Heading {
     pub spacing: Vec2,
     pub unit: SizeUnit,
     pub has_grid: bool,
-    // All zero without a G.
+    // No Option: `heading_in` has zeros here without a G (RULES 6.11).
     pub options: GridOptions,
     // How many records that is, and where the next one begins.
     pub records: usize,

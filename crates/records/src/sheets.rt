@@ -1,5 +1,5 @@
 // The check of a whole sheet: refusals 1 to 3 (RULES 8.6 to 8.8).
-ghost use Rattle.std.specs.Prelude.{◌≡◌, cond, ◌*◌, ◌≤◌, ltb, length};
+ghost use Rattle.std.specs.Prelude.{◌≡◌, cond, ◌*◌, ◌≤◌, ltb};
 ghost use Rattle.emath.specs.Numbers as number;
 ghost use Rattle.emath.specs.Refusals.{number_of};
 ghost use Rattle.records.specs.Sheets.{widget_step, sheet_fault, checked, checked_number, checked_record, checked_outcome, Accepted, Refused};
@@ -8,10 +8,10 @@ ghost use Rattle.records.specs.Implementation.SizeCache.{cached_by};
 use crate::headings::{heading_fault, read_heading};
 use crate::records::{next_record, read_record};
 use crate::size_cache::store;
-use crate::{CACHE_LEN, Counts, MAX_RECORDS, SheetRefusal, Step};
+use crate::{CACHE_LEN, Counts, MAX_RECORDS, SheetRefusal, SizeCache, Step};
 use emath::Refusal;
 
-// 1 for a W.
+// 1 for a W: a match, since only a W counts.
 #[tactic(auto, unfolding(crate::specs::Sheets::widget_step))]
 fn widget_step(st: Step) -> usize
     ensures { (result ≡ widget_step st) × (result ≤ 1) }
@@ -46,8 +46,11 @@ fn ended(k: usize, w: usize, room: usize) -> Result<Counts, SheetRefusal>
 }
 
 // Which of 1 to 3 applies, with a slice of `room` places; or how many records and W there are. The size of each W read goes to the cache.
-pub fn check_caching(text: &[u8], room: usize, sizes: &mut [f32]) -> Result<Counts, SheetRefusal>
-    requires { length sizes.old ≡ 1026 }
+pub fn check_caching(
+    text: &[u8],
+    room: usize,
+    sizes: &mut SizeCache,
+) -> Result<Counts, SheetRefusal>
     ensures { (checked_outcome result ≡ checked text.now room) × (sizes.new ≡ cached_by text.now sizes.old) }
 {
     if let Some(fault) = heading_fault(text) {

@@ -1,19 +1,19 @@
 // A cache of W sizes by the record's number: filled when a sheet is checked, so that the fields of a W are read once.
-ghost use Rattle.std.specs.Prelude.{◌≡◌, ◌+◌, ◌≤◌, length, drop};
+ghost use Rattle.std.specs.Prelude.{◌≡◌, ◌≤◌, drop};
 ghost use Rattle.records.specs.Records.{record_at};
 ghost use Rattle.records.specs.Implementation.SizeCache.{stored_step, IsCached};
 
 use crate::parts::byte;
 use crate::records::read_record;
-use crate::{SizeUnit, Step};
+use crate::{SizeCache, SizeUnit, Step};
 
 // Heights stand after all widths: side by side, one load would read both and wait, since store forwarding does not join two stores.
 const HEIGHTS: usize = 513;
 
 // Stores the size of record n, where it is a W.
 #[tactic(auto, unfolding(crate::specs::Implementation::SizeCache::stored_step))]
-pub fn store(sizes: &mut [f32], n: usize, st: Step)
-    requires { (n ≤ 512) × (length sizes.old ≡ 1026) }
+pub fn store(sizes: &mut SizeCache, n: usize, st: Step)
+    requires { n ≤ 512 }
     ensures { sizes.new ≡ stored_step sizes.old n st }
 {
     if let Step::Widget(x, y) = st {
@@ -27,10 +27,10 @@ pub fn cached_record(
     text: &[u8],
     unit: SizeUnit,
     at: usize,
-    sizes: &[f32],
+    sizes: &SizeCache,
     n: usize,
 ) -> Option<Step>
-    requires n_bound { (n ≤ 512) × (length sizes.now ≡ 1026) }
+    requires n_bound { n ≤ 512 }
     requires cached { IsCached unit (drop at text.now) sizes.now n }
     ensures { result ≡ record_at unit text.now at }
 {

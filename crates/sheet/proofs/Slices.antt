@@ -20,7 +20,7 @@ use Rattle.records.specs.Implementation.SizeCache.{cached_by}
 use Rattle.records.proofs.Places.{heading-within}
 use Rattle.records.proofs.Prefixes.{few-records}
 use Rattle.records.proofs.Checks.{clear}
-use Rattle.records.proofs.SizeCache.{cached-in, cached-by-length}
+use Rattle.records.proofs.SizeCache.{cached-in}
 use Rattle.sheet.specs.Implementation.Walks.{OnlySteps, none, more, Room}
 use Rattle.records.specs.Sheets.{Checked}
 use Rattle.records.specs.Sheets.{Accepted, Refused}
@@ -117,7 +117,6 @@ room_after text room r w sizes l e =
       begins = heading-within text;
       only = only-steps ((heading_in text).records + 1) (records text) (omega arith) c.steps;
       fits = c.fits;
-      places = cached-by-length text sizes ∙ l;
       cached = cached-in text room r w sizes l e;
     }
 

@@ -6,7 +6,7 @@ use Prim.Native.Nat.{ℕ}
 use native.Mathlib.Omega.{arith}
 use lib.Dec.{eqb}
 use lib.ListN.{length}
-use borrow.Author.Tests.{eq-eqb, ne_eqb, eqb-true}
+use borrow.Author.Tests.{eq-eqb, eqb-true}
 use Rattle.emath.specs.Steps.{tick}
 use Rattle.emath.specs.Domain.{within, edges_of}
 use Rattle.emath.specs.Refusals.{lesser, least, or_else, size_fault, pair_fault, edges_fault, outside}

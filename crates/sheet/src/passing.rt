@@ -19,14 +19,14 @@ use placer::Placer;
 use placer::lent::{settings, state};
 use records::headings::read_heading;
 use records::sheets::check_caching;
-use records::{CACHE_LEN, Heading, MAX_RECORDS};
+use records::{CACHE_LEN, Heading, MAX_RECORDS, SizeCache};
 
 // The steps after the heading, on the placer that it gave.
 fn go_on(
     placer: Placer,
     heading: Heading,
     text: &[u8],
-    sizes: &[f32],
+    sizes: &SizeCache,
     memory: Memory,
     out: &mut [i32],
 ) -> Passed
@@ -62,7 +62,7 @@ fn with_grid(
     placer: Placer,
     heading: Heading,
     text: &[u8],
-    sizes: &[f32],
+    sizes: &SizeCache,
     known: bool,
     memory: Memory,
     sizing: bool,
@@ -81,7 +81,7 @@ fn with_grid(
 fn from_heading(
     heading: Heading,
     text: &[u8],
-    sizes: &[f32],
+    sizes: &SizeCache,
     known: bool,
     memory: Memory,
     sizing: bool,
@@ -103,7 +103,7 @@ fn from_heading(
 // A pass over a text that was checked before, with its W cached in `sizes`.
 pub fn pass_cached(
     text: &[u8],
-    sizes: &[f32],
+    sizes: &SizeCache,
     known: bool,
     memory: Memory,
     sizing: bool,
@@ -118,13 +118,12 @@ pub fn pass_cached(
 // As `pass`; the check, which comes first, fills the cache `sizes`.
 pub fn pass_caching(
     text: &[u8],
-    sizes: &mut [f32],
+    sizes: &mut SizeCache,
     known: bool,
     memory: Memory,
     sizing: bool,
     out: &mut [i32],
 ) -> Passed
-    requires { length sizes.old ≡ 1026 }
     ensures { Called text.now known memory sizing out.old (passed_outcome result) out.new × (sizes.new ≡ cached_by text.now sizes.old) }
 {
     let room = out.len();

@@ -22,8 +22,7 @@ fn given_fault(
 ) -> Option<Refusal>
     ensures { (pw ph ws hs : List Float) → fault_number result ≡ given_number (placer_of placer state pw ph ws hs) spacing size }
 {
-    let g = state.grid;
-    let place = cell_fault(placer.has_grid, g.col, g.row);
+    let place = cell_fault(placer.has_grid, state.grid.col, state.grid.row);
     first_of(
         size_fault(size),
         first_of(pair_fault(spacing.x, spacing.y), place),
@@ -77,7 +76,7 @@ fn called(a: Result<PassState, Refusal>) -> Result<Stepped, Refusal>
     Ok(Stepped { state, cell: None })
 }
 
-// What each step runs.
+// What each step runs: a match, since each is another call with its own fields.
 fn run_step(
     placer: PlacerSettings,
     state: PassState,

@@ -15,14 +15,14 @@ use emath::{Rect, Vec2};
 use placer::{PassState, PlacerSettings};
 use records::records::next_record;
 use records::size_cache::cached_record;
-use records::{SheetRefusal, SizeUnit};
+use records::{SheetRefusal, SizeCache, SizeUnit};
 
 // From the place `from`, where record `first` is, at most `most` records, the W from the cache; each W's rectangles go to the slice, and its
 // frame joins the plate.
 pub fn run(
     text: &[u8],
     unit: SizeUnit,
-    sizes: &[f32],
+    sizes: &SizeCache,
     from: usize,
     first: usize,
     most: usize,
@@ -37,7 +37,7 @@ pub fn run(
 ) -> Result<Ran, SheetRefusal>
     requires ready { Ready placer state prev_widths.now prev_heights.now widths.old heights.old }
     requires from_in_bounds { (from ≤ length text.now) × (first + most ≤ 513) }
-    requires only_steps { OnlySteps (records_from unit most (drop from text.now)) × (8 * widgets (records_from unit most (drop from text.now)) ≤ length out.old) × (length sizes.now ≡ 1026) × AreCached unit most (drop from text.now) sizes.now first }
+    requires only_steps { OnlySteps (records_from unit most (drop from text.now)) × (8 * widgets (records_from unit most (drop from text.now)) ≤ length out.old) × AreCached unit most (drop from text.now) sizes.now first }
     ensures { (r : Run) × Comes placer result prev_widths.now prev_heights.now widths.new heights.new r × Walked spacing first (placer_of placer state prev_widths.now prev_heights.now widths.old heights.old) (steps_of (records_from unit most (drop from text.now))) out.old r out.new }
 {
     let mut s = state;

@@ -22,7 +22,6 @@ use Rattle.records.specs.Records.{Record}
 use Rattle.std.specs.Prelude.{Some}
 use Rattle.records.specs.Sheets as checked-of
 use Rattle.records.specs.declared.SheetRefusal.{SheetRefusal}
-use Rattle.sheet.specs.declared.Cell.{Cell as Placed}
 use Rattle.sheet.specs.declared.Ran.{Ran as Came}
 use Rattle.sheet.specs.Slices.{Passed}
 use Rattle.sheet.specs.Pass.{Sheet, Cell, Ran, run_from, plate_of, outcome_of}
@@ -94,7 +93,6 @@ pub record Room (h : Heading) (text : List ℕ) (room : ℕ) (sizes : List Float
   pub begins : h.next ≤ length text
   pub only : OnlySteps (records_after h text)
   pub fits : 8 * widgets (records_after h text) ≤ room
-  pub places : length sizes ≡ 1026
   pub cached : AreCached h.unit (most_records - h.records) (drop h.next text) sizes (h.records + 1)
 
 -- a text whose check was accepted before

@@ -7,5 +7,5 @@ use Rattle.records.proofs.sheets.check_caching.Given as goal
 
 abbrev pub invariant-loop-k : goal.invariant-loop-k
 invariant-loop-k l =
-    (l.w ≤ l.k) × (l.at ≤ length l.text) × Reached l.text l.at l.k l.w (512 - l.k) × (length l.sizes ≡ length l.initial.sizes)
+    (l.w ≤ l.k) × (l.at ≤ length l.text) × Reached l.text l.at l.k l.w (512 - l.k)
     × (cached_from (l.k + 1) (records_from (heading_in l.text).unit (512 - l.k) (drop l.at l.text)) l.sizes ≡ cached_by l.text l.initial.sizes)

@@ -14,7 +14,7 @@ run-r-requires c =
     let q = c.args.placer in
     let r = c.requires.room in
     let e : placer_of c.settings-b.result c.state.result q.grid.prev_state.col_widths q.grid.prev_state.row_heights q.grid.curr_state.col_widths q.grid.curr_state.row_heights ≡ q = rw (c.state.ensures, c.settings-b.ensures) in
-    record { ready = record { none = rw e c.requires.placer_value; cols = search rules; rows = search rules }; from_in_bounds = (r.begins, omega (arith, r.few)); only_steps = (r.only, r.fits, r.places, r.cached) }
+    record { ready = record { none = rw e c.requires.placer_value; cols = search rules; rows = search rules }; from_in_bounds = (r.begins, omega (arith, r.few)); only_steps = (r.only, r.fits, r.cached) }
 
 pub returns : goal.returns
 returns c =

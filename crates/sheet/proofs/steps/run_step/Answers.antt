@@ -1,5 +1,4 @@
-use mathlib.Core.Path.{ap, ◌∙◌}
-use Rattle.sheet.specs.Implementation.Calls.{called_by, step_result}
+use Rattle.sheet.specs.Implementation.Calls.{step_result}
 use Rattle.sheet.proofs.steps.run_step.Goals as goal
 
 pub place-requires : goal.place-requires

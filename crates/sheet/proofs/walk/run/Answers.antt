@@ -23,7 +23,7 @@ cached_record-record-requires c =
     let a = c.args in
     let l = c.loop-n in
     let more : 0 < a.first + a.most - l.n = omega (arith, c.loop-n-test.true) in
-    record { n_bound = (omega (arith, c.loop-n-test.true, c.requires.from_in_bounds.1), c.requires.only_steps.2); cached = cached-here _ a.text.now a.sizes.now l.at l.n _ l.invariant.5 more c.if-text-at.false }
+    record { n_bound = omega (arith, c.loop-n-test.true, c.requires.from_in_bounds.1); cached = cached-here _ a.text.now a.sizes.now l.at l.n _ l.invariant.5 more c.if-text-at.false }
 
 pub run_record-requires : goal.run_record-requires
 run_record-requires c = c.loop-n.invariant.3
@@ -89,4 +89,4 @@ loop-n-init c =
     let a = c.args in
     let e : a.first + a.most - a.first ≡ a.most = omega arith in
     let q = c.requires.only_steps in
-    (refl, c.requires.from_in_bounds.0, rw e (omega (arith, q.1)), c.requires.ready, rw e, rw e q.3, zero-rect tick)
+    (refl, c.requires.from_in_bounds.0, rw e (omega (arith, q.1)), c.requires.ready, rw e, rw e q.2, zero-rect tick)

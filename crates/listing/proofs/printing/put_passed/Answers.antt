@@ -11,10 +11,18 @@ pub put_refusal-requires : goal.put_refusal-requires
 unfolding printable
 put_refusal-requires c = rw c.in-Err.is at c.requires
 
-pub returns-in-Ok : goal.returns-in-Ok
-unfolding put_passed laid_number
-returns-in-Ok c = rw c.in-Ok.is (c.put_accepted.ensures, omega arith)
+pub returns-in-Ok-clause-lines : goal.returns-in-Ok-clause-lines
+unfolding put_passed
+returns-in-Ok-clause-lines c = rw c.in-Ok.is c.put_accepted.ensures
 
-pub returns-in-Err : goal.returns-in-Err
-unfolding put_passed laid_number
-returns-in-Err c = rw c.in-Err.is c.put_refusal.ensures
+pub returns-in-Ok-clause-number : goal.returns-in-Ok-clause-number
+unfolding laid_number
+returns-in-Ok-clause-number c = rw c.in-Ok.is (omega arith)
+
+pub returns-in-Err-clause-lines : goal.returns-in-Err-clause-lines
+unfolding put_passed
+returns-in-Err-clause-lines c = rw c.in-Err.is c.put_refusal.ensures.line
+
+pub returns-in-Err-clause-number : goal.returns-in-Err-clause-number
+unfolding laid_number
+returns-in-Err-clause-number c = rw c.in-Err.is c.put_refusal.ensures.number

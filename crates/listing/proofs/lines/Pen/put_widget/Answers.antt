@@ -1,15 +1,9 @@
-use Rattle.std.proofs.Common.{to_z, w32, ◌≡◌, arith, pos, eq-eqb, ne_eqb, rules}
+use Rattle.std.proofs.Common.{to_z, w32, ◌≡◌, arith, pos, rules}
 use Rattle.std.proofs.Math.Facts.{to_z_pos}
 use Rattle.text.proofs.Signs.{Same}
-use Rattle.listing.specs.Implementation.ListWriter.{put_widget}
-use Rattle.listing.proofs.lines.put_widget.Goals as goal
-
-pub returns-then-here-eq0 : goal.returns-then-here-eq0
-unfolding put_widget
-returns-then-here-eq0 c = rw (eq-eqb _ _ c.if-here-eq0.true)
+use Rattle.listing.proofs.lines.Pen.put_widget.Goals as goal
 
 pub returns : goal.returns
-unfolding put_widget
 returns c =
     let a = c.args in
     let e0 : to_z w32 a.number ≡ pos a.number = to_z_pos w32 (omega arith) in
@@ -21,4 +15,4 @@ returns c =
     let e6 : Same c.place-6.result = search rules in
     let e7 : Same c.place-7.result = search rules in
     let e8 : Same c.place-8.result = search rules in
-    rw (ne_eqb _ _ c.if-here-eq0.false) (rw (e0, e1, e2, e3, e4, e5, e6, e7, e8, c.place.ensures, c.place-2.ensures, c.place-3.ensures, c.place-4.ensures, c.place-5.ensures, c.place-6.ensures, c.place-7.ensures, c.place-8.ensures) at c.put_line.ensures)
+    rw (e0, e1, e2, e3, e4, e5, e6, e7, e8, c.place.ensures, c.place-2.ensures, c.place-3.ensures, c.place-4.ensures, c.place-5.ensures, c.place-6.ensures, c.place-7.ensures, c.place-8.ensures) at c.put_line.ensures

@@ -1,7 +1,7 @@
 use Rattle.std.proofs.Common.{to_z, w32, ◌≡◌, arith, pos, rules}
 use Rattle.std.proofs.Math.Facts.{to_z_pos}
 use Rattle.text.proofs.Signs.{Same}
-use Rattle.listing.proofs.lines.put_entry.Goals as goal
+use Rattle.listing.proofs.lines.Pen.put_entry.Goals as goal
 
 pub returns : goal.returns
 returns c =

@@ -1,6 +1,6 @@
 use Rattle.std.proofs.Common.{rules}
 use Rattle.text.proofs.Signs.{Same}
-use Rattle.listing.proofs.lines.put_plate.Goals as goal
+use Rattle.listing.proofs.lines.Pen.put_plate.Goals as goal
 
 pub returns : goal.returns
 returns c =

@@ -142,6 +142,7 @@ impl Pen<'_> {
     }
 
     // C for each column, then D for each row.
+    #[tactic(auto, using(crate::proofs::Pens::after), unfolding(crate::specs::Implementation::ListWriter::put_memory))]
     pub fn put_memory(&mut self, memory: Memory)
         requires { WholeMemory memory }
         ensures { Writes (put_memory memory) self.old self.new }

@@ -18,6 +18,7 @@ use sheet::Passed;
 use sheet::passing::{pass_cached, pass_caching};
 
 // An accepted pass: W for each control, P, then C and D. Without a grid the memory is empty, and there is neither.
+#[tactic(auto, using(crate::proofs::Pens::after), unfolding(crate::specs::Implementation::ListWriter::put_accepted))]
 fn put_accepted(pen: &mut Pen, text: &[u8], cells: &[i32], plate: Rect, memory: Memory)
     requires { WholeRect tick plate × WholeMemory memory }
     ensures { Writes (put_accepted text.now cells.now plate memory) pen.old pen.new }
@@ -28,6 +29,7 @@ fn put_accepted(pen: &mut Pen, text: &[u8], cells: &[i32], plate: Rect, memory: 
 }
 
 // The lines of the pass that is printed.
+#[tactic(auto, unfolding(crate::specs::Implementation::ListWriter::printable, crate::specs::Implementation::ListWriter::put_passed, sheet::specs::Slices::laid_number))]
 fn put_passed(pen: &mut Pen, text: &[u8], cells: &[i32], p: Passed)
     requires { Printable (passed_outcome p) }
     ensures lines { Writes (put_passed (laid_outcome p.laid) text.now cells.now (passed_outcome p)) pen.old pen.new }

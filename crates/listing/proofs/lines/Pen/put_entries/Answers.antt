@@ -5,9 +5,6 @@ use Rattle.listing.proofs.lines.Pen.put_entries.Goals as goal
 pub put_entry-requires : goal.put_entry-requires
 put_entry-requires c = (omega (arith, c.requires.0), whole-at c.args.entries.now c.loop-i.i c.requires.1 c.loop-i-test.true)
 
-pub loop-i-init : goal.loop-i-init
-loop-i-init c = λ q h. h
-
 pub loop-i-preserved : goal.loop-i-preserved
 loop-i-preserved c = λ q h. c.loop-i.invariant q (entries-turn _ _ _ c.loop-i-test.true c.put_entry.ensures h)
 

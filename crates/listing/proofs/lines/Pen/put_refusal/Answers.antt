@@ -9,6 +9,3 @@ returns-clause-line c =
     let e0 : to_z w32 c.number.result ≡ pos c.number.result = to_z_pos w32 (omega arith) in
     let e1 : to_z w32 a.«record» ≡ pos a.«record» = to_z_pos w32 (omega arith) in
     rw (e0, e1, n) at c.put_line.ensures
-
-pub returns-clause-number : goal.returns-clause-number
-returns-clause-number c = omega (arith, c.number.ensures)

@@ -3,11 +3,6 @@ use Rattle.listing.proofs.Puts.{widgets-line, widgets-none, widgets-end, widgets
 use Rattle.listing.proofs.lines.Pen.put_widgets_from.Goals.{then-text-at-eq87, else-text-at-eq87}
 use Rattle.listing.proofs.lines.Pen.put_widgets_from.Goals as goal
 
-pub loop-n-init : goal.loop-n-init
-loop-n-init c =
-    let e : c.args.first + c.args.most - c.args.first ≡ c.args.most = omega arith in
-    (omega arith, λ q h. rw e at h)
-
 pub returns-then-text-at : goal.returns-then-text-at
 returns-then-text-at c = let l = c.loop-n in l.invariant.1 _ (widgets-end c.args.text.now c.args.cells.now _ l.n l.k l.next c.if-text-at.true)
 

@@ -1,4 +1,5 @@
 -- The laws of the list, in the order of the argument.
+mod Pens
 mod Puts
 pub mod Texts
 mod Letters

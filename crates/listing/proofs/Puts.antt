@@ -15,6 +15,9 @@ use Rattle.sheet.specs.Slices.{edges}
 use Rattle.sheet.specs.Slices.{Laid}
 use Rattle.sheet.specs.Slices.{Accepted, Refused}
 use Rattle.sheet.specs.Slices.{Passed}
+use Rattle.listing.specs.Implementation.Pens.{put, Writes}
+use Rattle.listing.specs.declared.lines.Pen.{Pen}
+use Rattle.listing.proofs.Pens.{after, nothing}
 use Rattle.listing.specs.Implementation.ListWriter.{Put, bytes, put_line, mark, places_of, put_widget, put_widgets, put_entries, put_memory, put_accepted, put_passed, Whole, none, more}
 
 -- ---- put_line
@@ -36,20 +39,16 @@ module _ (out : List ℕ) (at letter : ℕ) (zs : List ℤ) (o : List ℕ) where
       go true e = rw (ap (λ (p : Bool × List ℕ). p.0) e, ap (λ (p : Bool × List ℕ). p.1) e)
       go false e = rw (ap (λ (p : Bool × List ℕ). p.0) e, ap (λ (p : Bool × List ℕ). p.1) e)
 
--- ---- widget_at
+-- ---- a W, and any other record
 mark-at : (s : List ℕ) (at : ℕ) → mark (drop at s) ≡ cond (eqb (get_or s at 0) 87) 1 0
 unfolding mark
 mark-at s at = ap (λ (b : ℕ). cond (eqb b 87) 1 0) (get_or-drop at s 0 0 ∙ ap (λ (i : ℕ). get_or s i 0) (add-zero at))
 
-pub marked : (s : List ℕ) (at : ℕ) → get_or s at 0 ≡ 87 → 1 ≡ mark (drop at s)
+marked : (s : List ℕ) (at : ℕ) → get_or s at 0 ≡ 87 → 1 ≡ mark (drop at s)
 marked s at e = rw (mark-at s at, eq-eqb (get_or s at 0) 87 e)
 
-pub not-marked : (s : List ℕ) (at : ℕ) → (get_or s at 0 ≡ 87 → ⊥) → 0 ≡ mark (drop at s)
+not-marked : (s : List ℕ) (at : ℕ) → (get_or s at 0 ≡ 87 → ⊥) → 0 ≡ mark (drop at s)
 not-marked s at e = rw (mark-at s at, ne_eqb (get_or s at 0) 87 e)
-
-pub none-marked : (s : List ℕ) (at : ℕ) → length s ≤ at → 0 ≡ mark (drop at s)
-unfolding mark
-none-marked s at h = rw (drop_of_length-le s h)
 
 -- ---- put_widgets
 front : (left n k : ℕ) (u : List ℕ) (cells : List ℤ) (p : Put) → 0 < left → 0 < length u
@@ -69,31 +68,50 @@ unfolding put_widgets
 full zero n k u cells p h = refl
 full (suc left) n k u cells p h = absurd (omega arith)
 
-module _ (text : List ℕ) (cells : List ℤ) (left n k at : ℕ) (p r : Put) (inv : put_widgets left n k (drop at text) cells p ≡ r) where
-  pub widgets-end : length text ≤ at → p ≡ r
-  widgets-end h = sym (ended left n k cells p) ∙ ap (λ (u : List ℕ). put_widgets left n k u cells p) (sym (drop_of_length-le text h)) ∙ inv
+module _ (text : List ℕ) (cells : List ℤ) (left n k at : ℕ) where
+  pub widgets-end : {p : Pen} → length text ≤ at → Writes (put_widgets left n k (drop at text) cells) p p
+  widgets-end {p} h = record { same_slice = refl; written = sym (ap (λ (u : List ℕ). put_widgets left n k u cells (put p)) (drop_of_length-le text h) ∙ ended left n k cells (put p)) }
 
-  pub widgets-full : left ≤ 0 → p ≡ r
-  widgets-full h = sym (full left n k (drop at text) cells p h) ∙ inv
+  pub widgets-full : {p : Pen} → left ≤ 0 → Writes (put_widgets left n k (drop at text) cells) p p
+  widgets-full {p} h = record { same_slice = refl; written = sym (full left n k (drop at text) cells (put p) h) }
 
-  pub widgets-turn : 0 < left → at < length text → (here : ℕ) (q : Put) → here ≡ mark (drop at text) → q ≡ put_widget here n k cells p
-      → put_widgets (left - 1) (n + 1) (k + here) (drop (next_at text at) text) cells q ≡ r
-  widgets-turn m l here q e f =
+  turn : 0 < left → at < length text → (here : ℕ) → here ≡ mark (drop at text) → (p q : Put) → q ≡ put_widget here n k cells p
+      → put_widgets (left - 1) (n + 1) (k + here) (drop (next_at text at) text) cells q ≡ put_widgets left n k (drop at text) cells p
+  turn m l here e p q f =
       let s : 0 < length (drop at text) = omega (arith, length-drop at text) in
-      rw (f, e, next-is-rest text at) (sym (front left n k (drop at text) cells p m s) ∙ inv)
+      rw (f, e, next-is-rest text at) (sym (front left n k (drop at text) cells p m s))
 
--- ---- put_entries_lem
-module _ (letter : ℕ) (xs : List Float) (i : ℕ) (p r : Put) (inv : put_entries letter i (drop i xs) p ≡ r) where
+  -- a W has its line
+  pub widgets-line : {p q r : Pen} → 0 < left → at < length text → get_or text at 0 ≡ 87 → Writes (put_line 87 (pos n ∷ places_of cells k)) p q
+      → Writes (put_widgets (left - 1) (n + 1) (k + 1) (drop (next_at text at) text) cells) q r → Writes (put_widgets left n k (drop at text) cells) p r
+  unfolding put_widget
+  widgets-line {p} {q} m l e h i = record {
+    same_slice = i.same_slice ∙ h.same_slice;
+    written = i.written ∙ turn m l 1 (marked text at e) (put p) (put q) h.written;
+  }
+
+  -- any other record has none
+  pub widgets-none : {p r : Pen} → 0 < left → at < length text → (get_or text at 0 ≡ 87 → ⊥)
+      → Writes (put_widgets (left - 1) (n + 1) k (drop (next_at text at) text) cells) p r → Writes (put_widgets left n k (drop at text) cells) p r
+  unfolding put_widget
+  widgets-none {p} m l e i = record {
+    same_slice = i.same_slice;
+    written = i.written ∙ (rw add-zero at (turn m l 0 (not-marked text at e) (put p) (put p) refl));
+  }
+
+-- ---- put_entries
+module _ (letter : ℕ) (xs : List Float) (i : ℕ) where
   from : i < length xs → drop i xs ≡ get_or xs i nan ∷ drop (i + 1) xs
   from h = drop-cons xs i nan h ∙ rw add-one
 
-  pub entries-turn : i < length xs → (q : Put) → q ≡ put_line letter (pos i ∷ ticks 5 (get_or xs i nan) ∷ []) p → put_entries letter (i + 1) (drop (i + 1) xs) q ≡ r
+  pub entries-turn : {p q r : Pen} → i < length xs → Writes (put_line letter (pos i ∷ ticks 5 (get_or xs i nan) ∷ [])) p q
+      → Writes (put_entries letter (i + 1) (drop (i + 1) xs)) q r → Writes (put_entries letter i (drop i xs)) p r
   unfolding put_entries
-  entries-turn h q e = rw e (rw (from h) at inv)
+  entries-turn h v w = rw (from h) (after v w)
 
-  pub entries-end : length xs ≤ i → p ≡ r
+  pub entries-end : {p : Pen} → length xs ≤ i → Writes (put_entries letter i (drop i xs)) p p
   unfolding put_entries
-  entries-end h = (rw (drop_of_length-le xs h) at inv)
+  entries-end {p} h = rw (drop_of_length-le xs h) (nothing p)
 
 pub whole-at : (xs : List Float) (i : ℕ) → Whole xs → i < length xs → Edge 5 (get_or xs i nan)
 whole-at xs i none h = absurd (omega arith)

@@ -5,8 +5,9 @@ ghost use Rattle.region.specs.Steps.{WholeRect};
 ghost use Rattle.sheet.specs.Slices.{laid_number, laid_outcome, passed_outcome, Returns};
 ghost use Rattle.listing.specs.Lists.{settled, list_in};
 ghost use Rattle.listing.specs.Implementation.ListWriter.{put_accepted, put_passed, WholeMemory, Printable};
+ghost use Rattle.listing.specs.Implementation.Pens.{Writes};
 
-use crate::lines::{put_memory, put_plate, put_refusal, put_widgets};
+use crate::lines::Pen;
 use crate::{MAX_LIST, PLACES};
 use emath::Rect;
 use grid::Memory;
@@ -17,23 +18,26 @@ use sheet::Passed;
 use sheet::passing::{pass_cached, pass_caching};
 
 // An accepted pass: W for each control, P, then C and D. Without a grid the memory is empty, and there is neither.
-fn put_accepted(out: &mut [u8], text: &[u8], cells: &[i32], plate: Rect, memory: Memory) -> usize
+#[tactic(auto, using(crate::proofs::Pens::after), unfolding(crate::specs::Implementation::ListWriter::put_accepted))]
+fn put_accepted(pen: &mut Pen, text: &[u8], cells: &[i32], plate: Rect, memory: Memory)
     requires { WholeRect tick plate × WholeMemory memory }
-    ensures { record { at = result; out = out.new } ≡ put_accepted text.now cells.now plate memory (record { at = 0; out = out.old }) }
+    ensures { Writes (put_accepted text.now cells.now plate memory) pen.old pen.new }
 {
-    let after = put_widgets(out, text, cells);
-    let last = put_plate(out, after, plate);
-    put_memory(out, last, memory)
+    pen.put_widgets(text, cells);
+    pen.put_plate(plate);
+    pen.put_memory(memory);
 }
 
 // The lines of the pass that is printed.
-fn put_passed(out: &mut [u8], text: &[u8], cells: &[i32], p: Passed) -> usize
+#[tactic(auto, unfolding(crate::specs::Implementation::ListWriter::printable, crate::specs::Implementation::ListWriter::put_passed, sheet::specs::Slices::laid_number))]
+fn put_passed(pen: &mut Pen, text: &[u8], cells: &[i32], p: Passed)
     requires { Printable (passed_outcome p) }
-    ensures { (record { at = result; out = out.new } ≡ put_passed (laid_outcome p.laid) text.now cells.now (passed_outcome p) (record { at = 0; out = out.old })) × (laid_number (laid_outcome p.laid) < 256) }
+    ensures lines { Writes (put_passed (laid_outcome p.laid) text.now cells.now (passed_outcome p)) pen.old pen.new }
+    ensures number { laid_number (laid_outcome p.laid) < 256 }
 {
     match p.laid {
-        Ok(()) => put_accepted(out, text, cells, p.plate, p.memory),
-        Err(e) => put_refusal(out, e.refusal, e.record),
+        Ok(()) => put_accepted(pen, text, cells, p.plate, p.memory),
+        Err(e) => pen.put_refusal(e.refusal, e.record),
     }
 }
 
@@ -56,5 +60,7 @@ pub fn print(text: &[u8], out: &mut [u8; MAX_LIST]) -> usize
 {
     let mut cells: [i32; PLACES] = [0; PLACES];
     let p = settle(text, &mut cells);
-    put_passed(out, text, &cells, p)
+    let mut pen = Pen { out, at: 0 };
+    put_passed(&mut pen, text, &cells, p);
+    pen.at
 }

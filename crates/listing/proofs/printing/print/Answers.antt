@@ -15,5 +15,5 @@ returns c =
     let a = c.args in
     let s = c.settle-p.ensures in
     let l : length a.out.now ≡ 40802 = search rules in
-    in-slice _ a.out.now _ (list_of a.text.now) _ c.put_passed.ensures.0 (passed-within 40802 _ _ _ _ _ (omega arith, l))
-    (settled-list _ _ _ _ refl s _ refl l c.put_passed.ensures.1)
+    in-slice _ a.out.now _ (list_of a.text.now) _ c.put_passed.ensures.lines.written (passed-within 40802 _ _ _ _ _ (omega arith, l))
+    (settled-list _ _ _ _ refl s _ refl l c.put_passed.ensures.number)

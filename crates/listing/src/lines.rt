@@ -34,7 +34,8 @@ fn place(cells: &[i32], i: usize) -> i32
 }
 
 impl Pen<'_> {
-    // Nothing is written where the line has no room, or a number no text.
+    // Nothing is written where the line has no room, or a number no text. Inlined, each caller's count of numbers is known: faster.
+    #[inline(always)]
     fn put_line(&mut self, letter: u8, numbers: &[i32])
         ensures { Writes (put_line letter numbers.now) self.old self.new }
     {

@@ -15,7 +15,7 @@ use Rattle.records.specs.Records.{step_record, widget_record, record_of, record_
 use Rattle.text.specs.Letters as letters
 use Rattle.records.specs.Headings.{heading_in, heading_fault}
 use Rattle.records.specs.Sheets.{records_from, steps_left, wrong_from, checked}
-use Rattle.records.specs.Implementation.SizeCache.{stored_step, cached_from, cached_by, IsCached, AreCached, CachedIn}
+use Rattle.records.specs.Implementation.SizeCache.{stored_step, stored, cached_from, cached_by, IsCached, AreCached, CachedIn}
 use Rattle.records.proofs.Places.{next-is-rest}
 use Rattle.records.proofs.Reached.{is_step, records-few, records-step, step-on, stops, none_left, no_more}
 use Rattle.records.proofs.Prefixes.{few-records}
@@ -32,11 +32,6 @@ step-length ss n (MaxHeight x) = refl
 step-length ss n (MinWidth x) = refl
 step-length ss n (MinHeight x) = refl
 step-length ss n RowEnd = refl
-
--- of a record that may be no step
-unfoldable pub stored : List Float → ℕ → Record → List Float
-stored ss n (Steps st) = stored_step ss n st
-stored ss n Wrong = ss
 
 stored-length : (ss : List Float) (n : ℕ) (r : Record) → length (stored ss n r) ≡ length ss
 unfolding stored

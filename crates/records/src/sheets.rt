@@ -66,7 +66,7 @@ pub fn check_caching(
         let Some(st) = read_record(text, h.unit, at) else {
             return refused(Refusal::Malformed, k + 1);
         };
-        store(sizes, k + 1, st);
+        store(sizes, k + 1, Some(st));
         w += widget_step(st);
         at = next_record(text, at);
     }

@@ -1,7 +1,7 @@
 // A cache of W sizes by the record's number: filled when a sheet is checked, so that the fields of a W are read once.
 ghost use Rattle.std.specs.Prelude.{◌≡◌, ◌≤◌, drop};
 ghost use Rattle.records.specs.Records.{record_at};
-ghost use Rattle.records.specs.Implementation.SizeCache.{stored_step, IsCached};
+ghost use Rattle.records.specs.Implementation.SizeCache.{stored, IsCached};
 
 use crate::parts::byte;
 use crate::records::read_record;
@@ -11,12 +11,12 @@ use crate::{SizeCache, SizeUnit, Step};
 const HEIGHTS: usize = 513;
 
 // Stores the size of record n, where it is a W.
-#[tactic(auto, unfolding(crate::specs::Implementation::SizeCache::stored_step))]
-pub fn store(sizes: &mut SizeCache, n: usize, st: Step)
+#[tactic(auto, unfolding(crate::specs::Implementation::SizeCache::stored, crate::specs::Implementation::SizeCache::stored_step))]
+pub fn store(sizes: &mut SizeCache, n: usize, r: Option<Step>)
     requires { n ≤ 512 }
-    ensures { sizes.new ≡ stored_step sizes.old n st }
+    ensures { sizes.new ≡ stored sizes.old n r }
 {
-    if let Step::Widget(x, y) = st {
+    if let Some(Step::Widget(x, y)) = r {
         sizes[n] = x;
         sizes[HEIGHTS + n] = y;
     }

@@ -23,6 +23,11 @@ stored_step ss n (MinWidth x) = ss
 stored_step ss n (MinHeight x) = ss
 stored_step ss n RowEnd = ss
 
+-- of a record that may be no step
+unfoldable pub stored : List Float → ℕ → Record → List Float
+stored ss n (Steps st) = stored_step ss n st
+stored ss n Wrong = ss
+
 -- the array after these records, the first of them record n: every W before one that is no step is in its places
 unfoldable pub cached_from : ℕ → List Record → List Float → List Float
 cached_from n [] ss = ss

@@ -4,7 +4,8 @@ use Rattle.records.specs.Records.{record_at}
 use Rattle.records.specs.Sheets.{widget}
 use Rattle.records.proofs.Reached.{is_step, Reached, start-at, next, on-heading, misplaced-answer, too_many, ended-answer}
 use Rattle.records.proofs.Places.{next-within, heading-within}
-use Rattle.records.proofs.SizeCache.{stored, not-cached, cached-start, cached-next, cached-ended, cached-full, cached-stopped}
+use Rattle.records.specs.Implementation.SizeCache.{stored}
+use Rattle.records.proofs.SizeCache.{not-cached, cached-start, cached-next, cached-ended, cached-full, cached-stopped}
 use Rattle.records.proofs.sheets.check_caching.Goals as goal
 
 pub returns-in-Some : goal.returns-in-Some

@@ -1,6 +1,7 @@
 -- The digit writer: the digits of n over eight spaces, from the last ones on, and then the minus, are the columns of n. Assumes nothing.
 use Rattle.std.proofs.Common.{ℤ, nat_abs, ℕ, zero, suc, ◌+◌, ◌-◌, ◌*◌, ◌/◌, ◌%◌, ◌^◌, max, ◌≤◌, ◌<◌, ◌≡◌, refl, ap, sym, ◌∙◌, subst, List, [], ◌∷◌, ◌++◌, length, take, drop, set, Bool, true, false, ◌&&◌, true≢false, ltb, arith, pow-suc, div-one, div-le_self, div-lt_iff_lt-mul, le-leb, lt-ltb, le-ltb, ltb-true, ltb-false, append-nil, append_assoc, drop_of_length-le, drop-drop}
 use borrow.Rule.Slice.PartMut.{put_mid}
+use lib.Seq.{set-set}
 use Rattle.std.proofs.lemmas.List.{set_comm}
 use Rattle.std.proofs.lemmas.List.Edits.{sets, sets-eq}
 use Rattle.text.specs.Fields.{shown, column, columns, text, negative}
@@ -172,3 +173,46 @@ text-put at k out columns z e l h =
     let m : k ≡ length (text z) = l ∙ sym n in
     ap (put_mid at k out) e ∙ ap (λ (xs : List ℕ). take at out ++ (text z ++ xs)) (drop-drop k at out ∙ ap (λ (j : ℕ). drop (at + j) out) m)
     ∙ sym (append_assoc (take at out) (text z) _) ∙ sym (sets-eq (text z) out at (omega arith))
+
+-- ---- the same in a slice of any length that has eight spaces from a place on
+-- as many again from the same place
+sets-again : (xs ys l : List ℕ) (i : ℕ) → length ys ≡ length xs → sets (sets l i xs) i ys ≡ sets l i ys
+sets-again [] [] l i h = refl
+sets-again [] (y ∷ ys) l i h = absurd (omega arith)
+sets-again (x ∷ xs) [] l i h = absurd (omega arith)
+sets-again (x ∷ xs) (y ∷ ys) l i h =
+    ap (λ (m : List ℕ). sets m (suc i) ys) (set_first xs (set l i x) i (suc i) y (omega arith) ∙ ap (λ (m : List ℕ). sets m (suc i) xs) (set-set l i x y))
+    ∙ sets-again xs ys (set l i y) (suc i) (omega arith)
+
+-- over the last of them
+sets_over : (xs ys l : List ℕ) (i m : ℕ) → m + length ys ≡ length xs → sets (sets l i xs) (i + m) ys ≡ sets l i (take m xs ++ ys)
+sets_over xs ys l i zero h = let e : i + 0 ≡ i = omega arith in rw e (sets-again xs ys l i (omega arith))
+sets_over [] ys l i (suc m) h = absurd (omega arith)
+sets_over (x ∷ xs) ys l i (suc m) h =
+    let e : i + suc m ≡ suc i + m = omega arith in
+    rw e (sets_over xs ys (set l i x) (suc i) m (omega arith))
+
+module _ (out : List ℕ) (at : ℕ) {o : List ℕ} (s : o ≡ sets out at (spaces 8)) where
+  over-in : (neg : Bool) (n k i : ℕ) (o' : List ℕ) → at ≤ i → i + k ≡ at + 8 → ((j : ℕ) → k ≤ j → j < 8 → column neg n j ≡ 32) → o' ≡ sets o i (columns neg n k) → o' ≡ sets out at (columns neg n 8)
+  over-in neg n k i o' l e h w =
+      let m = i - at in
+      let f : i ≡ at + m = omega arith in
+      let g : 8 ≡ m + k = omega arith in
+      w ∙ rw (s, f, g)
+      (sets_over (spaces (m + k)) (columns neg n k) out at m (omega (arith, spaces-length (m + k), columns-length neg n k))
+      ∙ ap (λ (xs : List ℕ). sets out at xs) (over-spaces neg n m k (λ j a b. h j a (omega arith))))
+
+  module _ (r : ℕ) {n : ℕ} {o' : List ℕ} (p : DigitsPut n o (at + 8) r o') where
+    low : at ≤ r
+    low = omega arith
+
+    pub digits-alone-in : (neg : Bool) → neg && ltb at r ≡ false → o' ≡ sets out at (columns neg n 8)
+    digits-alone-in false h = over-in false n (at + 8 - r) r o' low (omega arith) (λ j a b. plain-left p.digits j a) (p.written false)
+    digits-alone-in true h = let l : r ≤ at = ltb-false at r h in over-in true n (at + 8 - r) r o' low (omega arith) (λ j a b. absurd (omega arith)) (p.written true)
+
+    pub minus-put-in : (neg : Bool) → neg && ltb at r ≡ true → set o' (r - 1) 45 ≡ sets out at (columns neg n 8)
+    minus-put-in false t = absurd (true≢false (sym t))
+    minus-put-in true t =
+        let l : at < r = ltb-true at r t in
+        over-in true n (suc (at + 8 - r)) (r - 1) _ (omega arith) (omega arith) (λ j a b. minus-left p.digits j a)
+        (column-more true n (at + 8 - r) r (r - 1) 45 o o' (omega arith) (p.written true) (minus-next p.digits))

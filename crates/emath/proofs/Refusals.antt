@@ -12,6 +12,7 @@ use Rattle.std.specs.Ordering.{ord_min}
 use Rattle.emath.specs.contracts.RefusalOrd.TheImpl.{cmp-value}
 use Rattle.std.specs.Option.{option_or, option_and}
 use Rattle.emath.specs.Refusals.{when, lesser, least, or_else, length_fault, pair_fault, edges_fault, rect_fault, outside, number_of, fault_number, answered, answer, numbered, answer_number, answer_value, or_zeros}
+use Rattle.emath.specs.Numbers as number
 use Rattle.emath.specs.declared.Refusal.{Refusal}
 use Rattle.emath.specs.declared.Refusal.TheVariants.{Malformed, Outside}
 use Rattle.emath.specs.Implementation.NoNaN.{IsNumber, Numbers}
@@ -144,6 +145,14 @@ no-fault r h =
 pub length-quick : (x : Float) → within x ≡ true → 0 ≡ length_fault x
 unfolding length_fault least lesser
 length-quick x h = rw (h, within-finite x h)
+
+-- 4 and 5 come before 6
+pub far-first : (b c : Bool) → lesser (when b number.not_finite) number.too_far ≡ lesser (lesser (when b number.not_finite) number.too_far) (when c number.negative)
+unfolding lesser
+far-first true true = refl
+far-first true false = refl
+far-first false true = refl
+far-first false false = refl
 
 pub pair-quick : (x y : Float) → both_of within x y ≡ true → 0 ≡ pair_fault x y
 unfolding pair_fault least lesser both_of

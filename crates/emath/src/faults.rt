@@ -1,8 +1,8 @@
 // RULES 8.5: why values of this crate's types are refused of their own; RULES 8.2, 8.4, 8.13: which of several reasons is the call's, and
-// what the call answers.
+// what the call answers: by a refusal, and by its number too, which may be any byte, 0 for none.
 ghost use Rattle.std.specs.Prelude.{◌≡◌, not};
 ghost use Rattle.emath.specs.Numbers as number;
-ghost use Rattle.emath.specs.Refusals.{when, lesser, length_fault, extent_fault, pair_fault, size_fault, edges_fault, rect_fault, outside, number_of, fault_number, answered};
+ghost use Rattle.emath.specs.Refusals.{when, lesser, or_else, length_fault, extent_fault, pair_fault, size_fault, edges_fault, rect_fault, outside, number_of, fault_number, answered, answer};
 
 use crate::domain::{both_finite, both_within, is_finite, is_within};
 use crate::{Rect, Refusal, Vec2};
@@ -13,6 +13,34 @@ impl Refusal {
     {
         self as u8
     }
+}
+
+// 0 for none.
+pub fn fault_number(fault: Option<Refusal>) -> u8
+    ensures { result ≡ fault_number fault }
+{
+    match fault {
+        None => 0,
+        Some(refusal) => refusal.number(),
+    }
+}
+
+pub fn number_when(b: bool, n: u8) -> u8
+    ensures { result ≡ when b n }
+{
+    if b { n } else { 0 }
+}
+
+pub fn lesser_number(a: u8, b: u8) -> u8
+    ensures { result ≡ lesser a b }
+{
+    if a == 0 {
+        return b;
+    }
+    if b == 0 {
+        return a;
+    }
+    if a < b { a } else { b }
 }
 
 // The one with the lesser number.
@@ -26,6 +54,12 @@ pub fn first_of(a: Option<Refusal>, b: Option<Refusal>) -> Option<Refusal>
         return a;
     };
     Some(x.min(y))
+}
+
+pub fn or_else(n: u8, m: u8) -> u8
+    ensures { result ≡ or_else n m }
+{
+    if n == 0 { m } else { n }
 }
 
 // Of numbers that are not all within the limit.
@@ -50,11 +84,15 @@ pub fn length_fault(x: f32) -> Option<Refusal>
     Some(beyond(is_finite(x)))
 }
 
-// Of a maximum width or height, say, which is not negative.
+// Of a maximum width or height, say, which is not negative. What is beyond the limit is refused for that, as the number is less: so here and
+// below the first test decides which of the two faults there may be.
 pub fn extent_fault(x: f32) -> Option<Refusal>
     ensures { fault_number result ≡ extent_fault x }
 {
-    first_of(length_fault(x), (x < 0.0).then_some(Refusal::Negative))
+    if is_within(x) {
+        return (x < 0.0).then_some(Refusal::Negative);
+    }
+    length_fault(x)
 }
 
 pub fn pair_fault(x: f32, y: f32) -> Option<Refusal>
@@ -69,10 +107,10 @@ pub fn pair_fault(x: f32, y: f32) -> Option<Refusal>
 pub fn size_fault(v: Vec2) -> Option<Refusal>
     ensures { fault_number result ≡ size_fault v }
 {
-    first_of(
-        pair_fault(v.x, v.y),
-        v.is_negative().then_some(Refusal::Negative),
-    )
+    if both_within(v.x, v.y) {
+        return v.is_negative().then_some(Refusal::Negative);
+    }
+    pair_fault(v.x, v.y)
 }
 
 pub fn edges_fault(r: Rect) -> Option<Refusal>
@@ -87,14 +125,21 @@ pub fn edges_fault(r: Rect) -> Option<Refusal>
 pub fn rect_fault(r: Rect) -> Option<Refusal>
     ensures { fault_number result ≡ rect_fault r }
 {
-    first_of(
-        edges_fault(r),
-        r.is_inside_out().then_some(Refusal::Negative),
-    )
+    if r.is_within() {
+        return r.is_inside_out().then_some(Refusal::Negative);
+    }
+    edges_fault(r)
 }
 
-// Of an answer or a new state that has this fault.
-pub fn outside_domain(fault: Option<Refusal>) -> Option<Refusal>
+// The number of an answer or a new state that has the fault n.
+pub fn outside_domain(n: u8) -> u8
+    ensures { result ≡ outside n }
+{
+    if n == 0 { 0 } else { Refusal::Outside.number() }
+}
+
+// The same by the fault.
+pub fn outside(fault: Option<Refusal>) -> Option<Refusal>
     ensures { fault_number result ≡ outside (fault_number fault) }
 {
     fault.and(Some(Refusal::Outside))
@@ -110,4 +155,13 @@ where
         None => Ok(value),
         Some(refusal) => Err(refusal),
     }
+}
+
+// The same by the number.
+pub fn answer_by_number<T>(n: u8, value: T) -> Result<T, u8>
+where
+    T: Drop,
+    ensures { result ≡ answer n value }
+{
+    if n == 0 { Ok(value) } else { Err(n) }
 }

@@ -1,6 +1,7 @@
 -- One turn of each loop over a list of lengths, and what a fill with zeros leaves. Assumes nothing.
-use Rattle.std.proofs.Common.{◌≡◌, refl, sym, ap, ◌∙◌, Bool, true, false, ◌&&◌, List, [], ◌∷◌, ℕ, zero, suc, ◌+◌, ◌≤◌, ◌<◌, length, drop, get_or, set, replicate, drop_of_length-le, length-set, arith}
-use Rattle.std.specs.Prelude.{Float}
+use Rattle.std.proofs.Common.{◌≡◌, refl, sym, ap, ◌∙◌, Bool, true, false, ◌&&◌, List, [], ◌∷◌, ℕ, zero, suc, ◌+◌, ◌≤◌, ◌<◌, length, drop, get_or, set, replicate, drop_of_length-le, length-set, eqb-true, arith}
+use Rattle.std.specs.Prelude.{Float, eqb}
+use Rattle.std.specs.List.{list_all}
 use Rattle.std.specs.Float.{nan, binary32}
 use Rattle.std.specs.Float.Ieee.{add, eq}
 use Rattle.std.proofs.Math.Seq.{paste}
@@ -8,7 +9,8 @@ use Rattle.std.proofs.lemmas.List.{at_drop_more, drop_more}
 use Rattle.std.proofs.lemmas.List.Edits.{paste_none, fill_from_more}
 use Rattle.emath.specs.Rectangles.{zero_f}
 use Rattle.emath.specs.Refusals.{lesser, extent_fault}
-use Rattle.emath.proofs.Refusals.{lesser-zero, lesser-assoc}
+use Rattle.emath.proofs.Tests.{both}
+use Rattle.emath.proofs.Refusals.{zero-lesser, lesser-zero, lesser-assoc}
 use Rattle.grid.specs.Entries.{cleared, total_from, same_entries, entries_fault}
 
 -- ---- the entries from i on
@@ -23,6 +25,11 @@ total-end vs i s h = rw (drop_of_length-le vs {i = i} h)
 pub fault-turn : (vs : List Float) (i f : ℕ) → i < length vs → lesser (lesser f (extent_fault (get_or vs i nan))) (entries_fault (drop (i + 1) vs)) ≡ lesser f (entries_fault (drop i vs))
 unfolding entries_fault
 fault-turn vs i f h = rw (at_drop_more entries_fault vs i nan h) (sym (lesser-assoc f (extent_fault (get_or vs i nan)) (entries_fault (drop (i + 1) vs))))
+
+pub sound-end : (vs : List Float) → list_all (λ x. eqb (extent_fault x) 0) vs ≡ true → entries_fault vs ≡ 0
+unfolding entries_fault
+sound-end [] h = refl
+sound-end (v ∷ vs) h = let a = both _ _ h in rw (eqb-true (extent_fault v) 0 a.0, zero-lesser) (sound-end vs a.1)
 
 pub fault-end : (vs : List Float) (i f : ℕ) → length vs ≤ i → f ≡ lesser f (entries_fault (drop i vs))
 unfolding entries_fault

@@ -8,7 +8,11 @@ use Rattle.region.specs.Refusals.{cursor_fault, region_fault}
 use Rattle.region.specs.Operations.{placed_number}
 use Rattle.grid.specs.Memories.{set_min_col_width, set_min_row_height, col_width, row_height, full_width}
 use Rattle.grid.specs.Grids.{known_memory, new_grid, empty_grid, prev_col_width, prev_row_height, available_rect, next_cell, align_size_within_rect, advance, end_row, save}
-use Rattle.grid.specs.Refusals.{memory_fault, max_cell_fault, grid_fault, direction_fault, moved_fault, MemoryAnswer, GridAnswer, MovedAnswer, SavedAnswer, memory_answer, grid_answer, moved_answer, saved_answer, entry_answer}
+use Rattle.grid.specs.Refusals.{memory_fault, max_cell_fault, grid_fault, direction_fault, moved_fault, memory_answer, grid_answer, moved_answer, saved_answer, entry_answer}
+use Rattle.grid.specs.declared.MemoryAnswer.{MemoryAnswer}
+use Rattle.grid.specs.declared.GridAnswer.{GridAnswer}
+use Rattle.grid.specs.declared.MovedAnswer.{MovedAnswer}
+use Rattle.grid.specs.declared.SavedAnswer.{SavedAnswer}
 use Rattle.emath.specs.declared.Rect.{Rect}
 use Rattle.emath.specs.declared.Vec2.{Vec2}
 use Rattle.region.specs.declared.Direction.{Direction}

@@ -16,6 +16,10 @@ use Rattle.grid.specs.declared.Memory.{Memory}
 use Rattle.grid.specs.declared.GridLayout.{GridLayout}
 use Rattle.grid.specs.declared.Moved.{Moved}
 use Rattle.grid.specs.declared.Saved.{Saved}
+use Rattle.grid.specs.declared.MemoryAnswer.{MemoryAnswer}
+use Rattle.grid.specs.declared.GridAnswer.{GridAnswer}
+use Rattle.grid.specs.declared.MovedAnswer.{MovedAnswer}
+use Rattle.grid.specs.declared.SavedAnswer.{SavedAnswer}
 
 -- ---- the faults of a state
 -- RULES 8.5: 4, 5 and 6 of the counted entries; 8 where more is counted than there is room for
@@ -48,22 +52,6 @@ moved_fault d m = least (grid_fault m.grid ∷ cursor_fault d m.cursor ∷ [])
 
 -- ---- RULES 8.4: the answers
 -- the number, and the state: the new one, or the one that was given
-pub record MemoryAnswer : Type 0 where
-  pub number : ℕ
-  pub memory : Memory
-
-pub record GridAnswer : Type 0 where
-  pub number : ℕ
-  pub grid : GridLayout
-
-pub record MovedAnswer : Type 0 where
-  pub number : ℕ
-  pub moved : Moved
-
-pub record SavedAnswer : Type 0 where
-  pub number : ℕ
-  pub saved : Saved
-
 unfoldable pub memory_answer : ℕ → Memory → Memory → MemoryAnswer
 memory_answer n given new = record { number = n; memory = cond (eqb n 0) new given }
 

@@ -1,6 +1,7 @@
 // Lists of lengths: the first `n` entries of an array of either length, as the Rust's Vec holds them.
-ghost use Rattle.std.specs.Prelude.{◌≡◌, ◌+◌, ◌-◌, ◌<◌, ◌≤◌, length, take};
-ghost use Rattle.emath.specs.Refusals.{fault_number};
+ghost use Rattle.std.specs.Prelude.{◌≡◌, ◌+◌, ◌-◌, ◌<◌, ◌≤◌, eqb, length, take};
+ghost use Rattle.std.specs.List.{list_all};
+ghost use Rattle.emath.specs.Refusals.{extent_fault, fault_number};
 ghost use Rattle.grid.specs.Entries.{entry, cleared, raised, total, same_entries, entries_fault};
 ghost use Rattle.grid.specs.Memories.{raised_count};
 
@@ -74,10 +75,25 @@ pub fn same_entries(xs: &[f32], ys: &[f32]) -> bool
     same
 }
 
-// The first fault of an entry: not finite, too far or negative.
+fn is_sound(x: f32) -> bool
+    ensures { result ≡ eqb (extent_fault x) 0 }
+{
+    extent_fault(x).is_none()
+}
+
+fn are_sound(entries: &[f32]) -> bool
+    ensures { result ≡ list_all (λ x. eqb (extent_fault x) 0) entries.now }
+{
+    entries.iter().all(|&x| is_sound(x))
+}
+
+// The first fault of an entry: not finite, too far or negative. Mostly there is none, and then none is worked out.
 pub fn entries_fault(entries: &[f32]) -> Option<Refusal>
     ensures { fault_number result ≡ entries_fault entries.now }
 {
+    if are_sound(entries) {
+        return None;
+    }
     let mut fault = None;
     for x in entries {
         fault = first_of(fault, extent_fault(*x));

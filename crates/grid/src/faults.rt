@@ -1,11 +1,14 @@
-// The faults of a memory and a grid (RULES 8.5).
+// The faults of a memory and a grid (RULES 8.5), and what calls answer by numbers (RULES 8.4).
 ghost use Rattle.std.specs.Prelude.{◌≡◌};
 ghost use Rattle.emath.specs.Refusals.{fault_number};
-ghost use Rattle.grid.specs.Refusals.{memory_fault, max_cell_fault, grid_fault, fits_grid, direction_fault, moved_fault};
+ghost use Rattle.grid.specs.Refusals.{memory_fault, max_cell_fault, grid_fault, fits_grid, direction_fault, moved_fault, memory_answer, grid_answer, moved_answer, saved_answer, entry_answer};
 
 use crate::entries::{counted, entries_fault};
-use crate::{GridLayout, MAX_COLS, MAX_ROWS, Memory, Moved};
-use emath::faults::{edges_fault, first_of, pair_fault, size_fault};
+use crate::{
+    GridAnswer, GridLayout, MAX_COLS, MAX_ROWS, Memory, MemoryAnswer, Moved, MovedAnswer, Saved,
+    SavedAnswer,
+};
+use emath::faults::{answer_by_number, edges_fault, first_of, pair_fault, size_fault};
 use emath::{Refusal, Vec2};
 use region::Direction;
 use region::faults::{cursor_fault, zero_if_open};
@@ -74,4 +77,78 @@ pub fn moved_fault(main_dir: Direction, moved: Moved) -> Option<Refusal>
     ensures { fault_number result ≡ moved_fault main_dir moved }
 {
     first_of(grid_fault(moved.grid), cursor_fault(main_dir, moved.cursor))
+}
+
+pub fn memory_answer(n: u8, given: Memory, new: Memory) -> MemoryAnswer
+    ensures { result ≡ memory_answer n given new }
+{
+    if n == 0 {
+        MemoryAnswer {
+            number: n,
+            memory: new,
+        }
+    } else {
+        MemoryAnswer {
+            number: n,
+            memory: given,
+        }
+    }
+}
+
+pub fn grid_answer(n: u8, given: GridLayout, new: GridLayout) -> GridAnswer
+    ensures { result ≡ grid_answer n given new }
+{
+    if n == 0 {
+        GridAnswer {
+            number: n,
+            grid: new,
+        }
+    } else {
+        GridAnswer {
+            number: n,
+            grid: given,
+        }
+    }
+}
+
+pub fn moved_answer(n: u8, given: Moved, new: Moved) -> MovedAnswer
+    ensures { result ≡ moved_answer n given new }
+{
+    if n == 0 {
+        MovedAnswer {
+            number: n,
+            moved: new,
+        }
+    } else {
+        MovedAnswer {
+            number: n,
+            moved: given,
+        }
+    }
+}
+
+pub fn saved_answer(n: u8, given: Memory, new: Saved) -> SavedAnswer
+    ensures { result ≡ saved_answer n given new }
+{
+    if n == 0 {
+        return SavedAnswer {
+            number: n,
+            saved: new,
+        };
+    }
+    let kept = Saved {
+        memory: given,
+        save: false,
+    };
+    SavedAnswer {
+        number: n,
+        saved: kept,
+    }
+}
+
+// An entry that may not be there.
+pub fn entry_answer(n: u8, there: bool, v: f32) -> Result<Option<f32>, u8>
+    ensures { result ≡ entry_answer n there v }
+{
+    answer_by_number(n, there.then_some(v))
 }

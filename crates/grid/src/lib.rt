@@ -81,3 +81,28 @@ pub struct Saved {
     pub memory: Memory,
     pub save: bool,
 }
+
+// Calls that change a state, by numbers as the rules have it: the number (0: none; any byte), and the state, the given one where it is refused.
+#[derive(Clone, Copy)]
+pub struct MemoryAnswer {
+    pub number: u8,
+    pub memory: Memory,
+}
+
+#[derive(Clone, Copy)]
+pub struct GridAnswer {
+    pub number: u8,
+    pub grid: GridLayout,
+}
+
+#[derive(Clone, Copy)]
+pub struct MovedAnswer {
+    pub number: u8,
+    pub moved: Moved,
+}
+
+#[derive(Clone, Copy)]
+pub struct SavedAnswer {
+    pub number: u8,
+    pub saved: Saved,
+}

@@ -1,25 +1,31 @@
 // The public calls, in grid.rs's order: each answers the refusal of the least number that applies to its arguments or its answer, or what its
 // rule gives.
-ghost use Rattle.std.specs.Prelude.{◌≡◌};
+ghost use Rattle.std.specs.Prelude.{◌≡◌, [], ◌∷◌, ltb};
+ghost use Rattle.emath.specs.Numbers as number;
 ghost use Rattle.emath.specs.Steps.{tick};
 ghost use Rattle.emath.specs.Domain.{finite};
 ghost use Rattle.emath.specs.Rectangles.{zero_f};
-ghost use Rattle.emath.specs.Refusals.{numbered, Says};
-ghost use Rattle.region.specs.Refusals.{zero_rect};
+ghost use Rattle.emath.specs.Refusals.{when, least, pair_fault, size_fault, fault_number, numbered, Says};
+ghost use Rattle.region.specs.Refusals.{zero_rect, region_fault};
 ghost use Rattle.grid.specs.Memories.{col_width, full_width, row_height};
 ghost use Rattle.grid.specs.Grids.{empty_grid, align_size_within_rect, available_rect, next_cell, prev_col_width, prev_row_height};
-ghost use Rattle.grid.specs.Refusals.{memory_fault, grid_fault, memory_outcome, grid_outcome, moved_outcome, saved_outcome, SaysEntry};
+ghost use Rattle.grid.specs.Refusals.{memory_fault, max_cell_fault, grid_fault, direction_fault, memory_outcome, grid_outcome, moved_outcome, saved_outcome, SaysEntry};
 ghost use Rattle.grid.specs.Operations.{checked_set_min_col_width, checked_set_min_row_height, checked_col_width, checked_row_height, checked_full_width, checked_new, checked_prev_col_width, checked_prev_row_height, checked_available_rect, checked_next_cell, checked_align_size_within_rect, checked_advance, checked_end_row, checked_save, align_size_within_rect_number, available_rect_number, full_width_number, next_cell_number};
 
-use crate::faults::{direction_fault, grid_fault, max_cell_fault, memory_fault, moved_fault};
-use crate::{GridLayout, MAX_COLS, MAX_ROWS, Memory, Moved, Saved, grids, memories};
+use crate::faults::{
+    direction_fault, grid_answer, grid_fault, max_cell_fault, memory_fault, moved_fault,
+    saved_answer,
+};
+use crate::{
+    GridAnswer, GridLayout, MAX_COLS, MAX_ROWS, Memory, Moved, Saved, SavedAnswer, grids, memories,
+};
 use emath::domain::is_finite;
 use emath::faults::{
-    answer, extent_fault, first_of, length_fault, outside_domain, pair_fault, rect_fault,
+    answer, extent_fault, fault_number, first_of, length_fault, outside, pair_fault, rect_fault,
     size_fault,
 };
 use emath::{Rect, Refusal, Vec2};
-use region::faults::{cursor_fault, placed_rect, region_fault};
+use region::faults::{cursor_fault, placed, region_fault};
 use region::{Direction, Region};
 
 impl Memory {
@@ -32,7 +38,7 @@ impl Memory {
             (MAX_COLS <= col).then_some(Refusal::GridFull),
         );
         let before = first_of(memory_fault(self), rest);
-        answer(before.or(outside_domain(memory_fault(new))), new)
+        answer(before.or(outside(memory_fault(new))), new)
     }
 
     pub fn set_min_row_height(self, row: usize, height: f32) -> Result<Memory, Refusal>
@@ -44,7 +50,7 @@ impl Memory {
             (MAX_ROWS <= row).then_some(Refusal::GridFull),
         );
         let before = first_of(memory_fault(self), rest);
-        answer(before.or(outside_domain(memory_fault(new))), new)
+        answer(before.or(outside(memory_fault(new))), new)
     }
 
     pub fn col_width(self, col: usize) -> Result<Option<f32>, Refusal>
@@ -69,8 +75,33 @@ impl Memory {
     {
         let width = memories::full_width(self, x_spacing);
         let before = first_of(memory_fault(self), length_fault(x_spacing));
-        answer(before.or(outside_domain(length_fault(width))), width)
+        answer(before.or(outside(length_fault(width))), width)
     }
+}
+
+// Of what `new` is given; `remembered` is the memory's fault.
+fn new_fault(
+    main_dir: Direction,
+    region: Region,
+    remembered: Option<Refusal>,
+    spacing: Vec2,
+    min_cell_size: Vec2,
+    max_cell_size: Vec2,
+    start_row: usize,
+) -> Option<Refusal>
+    ensures { fault_number result ≡ least (region_fault main_dir region ∷ fault_number remembered ∷ pair_fault spacing.x spacing.y ∷ size_fault min_cell_size ∷ max_cell_fault max_cell_size ∷ direction_fault main_dir ∷ when (ltb 128 start_row) number.grid_full ∷ []) }
+{
+    let place = first_of(
+        direction_fault(main_dir),
+        (MAX_ROWS < start_row).then_some(Refusal::GridFull),
+    );
+    let most = first_of(max_cell_fault(max_cell_size), place);
+    let least = first_of(size_fault(min_cell_size), most);
+    let options = first_of(pair_fault(spacing.x, spacing.y), least);
+    first_of(
+        region_fault(main_dir, region),
+        first_of(remembered, options),
+    )
 }
 
 impl GridLayout {
@@ -101,17 +132,55 @@ impl GridLayout {
             num_columns,
             start_row,
         );
-        let place = first_of(
-            direction_fault(main_dir),
-            (MAX_ROWS < start_row).then_some(Refusal::GridFull),
+        let before = new_fault(
+            main_dir,
+            region,
+            memory_fault(grids::known_memory(known, memory)),
+            spacing,
+            min_cell_size,
+            max_cell_size,
+            start_row,
         );
-        let most = first_of(max_cell_fault(max_cell_size), place);
-        let least = first_of(size_fault(min_cell_size), most);
-        let options = first_of(pair_fault(spacing.x, spacing.y), least);
-        let given = memory_fault(grids::known_memory(known, memory));
-        let before = first_of(region_fault(main_dir, region), first_of(given, options));
-        let after = outside_domain(grid_fault(new));
-        answer(before.or(after), new)
+        answer(before.or(outside(grid_fault(new))), new)
+    }
+
+    // With the grid that is there then: an empty one where it is refused.
+    pub fn new_answer(
+        main_dir: Direction,
+        region: Region,
+        known: bool,
+        memory: Memory,
+        sizing_pass: bool,
+        spacing: Vec2,
+        min_cell_size: Vec2,
+        max_cell_size: Vec2,
+        num_columns: usize,
+        start_row: usize,
+    ) -> GridAnswer
+        ensures { result ≡ checked_new main_dir region known memory sizing_pass spacing min_cell_size max_cell_size num_columns start_row }
+    {
+        let new = grids::new_grid(
+            region,
+            known,
+            memory,
+            sizing_pass,
+            spacing,
+            min_cell_size,
+            max_cell_size,
+            num_columns,
+            start_row,
+        );
+        let before = new_fault(
+            main_dir,
+            region,
+            memory_fault(grids::known_memory(known, memory)),
+            spacing,
+            min_cell_size,
+            max_cell_size,
+            start_row,
+        );
+        let number = fault_number(before.or(outside(grid_fault(new))));
+        grid_answer(number, grids::empty_grid(), new)
     }
 
     pub fn prev_col_width(self, col: usize) -> Result<f32, Refusal>
@@ -140,7 +209,7 @@ impl GridLayout {
     {
         let rect = grids::available_rect(self, region);
         let rest = first_of(region_fault(main_dir, region), direction_fault(main_dir));
-        placed_rect(first_of(grid_fault(self), rest), rect)
+        placed(first_of(grid_fault(self), rest), rect)
     }
 
     pub fn next_cell(
@@ -155,7 +224,7 @@ impl GridLayout {
         let frame = grids::next_cell(self, cursor, child_size);
         let sizes = first_of(size_fault(child_size), direction_fault(main_dir));
         let rest = first_of(cursor_fault(main_dir, cursor), sizes);
-        placed_rect(first_of(grid_fault(self), rest), frame)
+        placed(first_of(grid_fault(self), rest), frame)
     }
 
     pub fn align_size_within_rect(self, size: Vec2, frame: Rect) -> Result<Rect, Refusal>
@@ -164,7 +233,7 @@ impl GridLayout {
     {
         let rect = grids::align_size_within_rect(size, frame);
         let rest = first_of(size_fault(size), rect_fault(frame));
-        placed_rect(first_of(grid_fault(self), rest), rect)
+        placed(first_of(grid_fault(self), rest), rect)
     }
 
     pub fn justify_and_align(self, frame: Rect, size: Vec2) -> Result<Rect, Refusal>
@@ -197,7 +266,7 @@ impl GridLayout {
             grid_fault(self),
             first_of(cursor_fault(main_dir, cursor), rects),
         );
-        let after = outside_domain(moved_fault(main_dir, new));
+        let after = outside(moved_fault(main_dir, new));
         answer(before.or(after), new)
     }
 
@@ -213,7 +282,7 @@ impl GridLayout {
             grid_fault(self),
             first_of(cursor_fault(main_dir, cursor), place),
         );
-        let after = outside_domain(moved_fault(main_dir, new));
+        let after = outside(moved_fault(main_dir, new));
         answer(before.or(after), new)
     }
 
@@ -221,5 +290,13 @@ impl GridLayout {
         ensures { saved_outcome self.prev_state result ≡ checked_save self }
     {
         answer(grid_fault(self), grids::save(self))
+    }
+
+    // With what is there then: the memory that the pass was given, and a clear flag, where it is refused.
+    pub fn save_answer(self) -> SavedAnswer
+        ensures { result ≡ checked_save self }
+    {
+        let number = fault_number(grid_fault(self));
+        saved_answer(number, self.prev_state, grids::save(self))
     }
 }

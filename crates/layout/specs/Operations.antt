@@ -4,7 +4,9 @@ use Rattle.std.specs.Prelude.{ℕ, [], ◌∷◌, Float, Result}
 use Rattle.emath.specs.Refusals.{least, or_else, length_fault, pair_fault, size_fault, rect_fault, outside, answer}
 use Rattle.layout.specs.Rules.{align_size_within_rect, initial_cursor, available_from_cursor_max_rect, available_rect_before_wrap, available_size, next_frame_ignore_wrap, next_frame, justify_and_align, next_widget_space_ignore_wrap_justify, next_widget_position, region_from_max_rect, advance_cursor, advance_after_rects, end_row, set_row_height}
 use Rattle.region.specs.Operations.{placed_number, changed_region}
-use Rattle.region.specs.Refusals.{cursor_fault, region_fault, RegionAnswer, CursorAnswer, zero_region, cursor_answer}
+use Rattle.region.specs.Refusals.{cursor_fault, region_fault, zero_region, cursor_answer}
+use Rattle.region.specs.declared.RegionAnswer.{RegionAnswer}
+use Rattle.region.specs.declared.CursorAnswer.{CursorAnswer}
 use Rattle.emath.specs.declared.Rect.{Rect}
 use Rattle.emath.specs.declared.Pos2.{Pos2}
 use Rattle.emath.specs.declared.Vec2.{Vec2}

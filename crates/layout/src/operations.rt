@@ -10,11 +10,11 @@ ghost use Rattle.layout.specs.Operations.{checked_align_size_within_rect, checke
 
 use crate::{Layout, available, cursors, frames, widgets};
 use emath::faults::{
-    answer, first_of, length_fault, outside_domain, pair_fault, rect_fault, size_fault,
+    answer, fault_number, first_of, length_fault, outside, pair_fault, rect_fault, size_fault,
 };
 use emath::{Pos2, Rect, Refusal, Vec2};
-use region::Region;
-use region::faults::{changed_region, cursor_fault, placed_rect, region_fault};
+use region::faults::{changed, changed_region, cursor_fault, placed, region_fault, zero_region};
+use region::{Region, RegionAnswer};
 
 impl Layout {
     pub fn align_size_within_rect(self, size: Vec2, outer: Rect) -> Result<Rect, Refusal>
@@ -22,7 +22,7 @@ impl Layout {
         ensures says { Says zero_rect (numbered result) (align_size_within_rect_number tick self size outer) (align_size_within_rect tick self size outer) }
     {
         let rect = widgets::align_size_within_rect(self, size, outer);
-        placed_rect(first_of(size_fault(size), rect_fault(outer)), rect)
+        placed(first_of(size_fault(size), rect_fault(outer)), rect)
     }
 
     pub fn initial_cursor(self, max_rect: Rect) -> Result<Rect, Refusal>
@@ -30,7 +30,7 @@ impl Layout {
         ensures says { Says zero_rect (numbered result) (initial_cursor_number self max_rect) (initial_cursor self.main_dir max_rect) }
     {
         let cursor = available::initial_cursor(self.main_dir, max_rect);
-        let after = outside_domain(cursor_fault(self.main_dir, cursor));
+        let after = outside(cursor_fault(self.main_dir, cursor));
         answer(rect_fault(max_rect).or(after), cursor)
     }
 
@@ -38,7 +38,16 @@ impl Layout {
         ensures { region_outcome zero_region result ≡ checked_region_from_max_rect tick self max_rect }
     {
         let new = widgets::region_from_max_rect(self, max_rect);
-        changed_region(self.main_dir, rect_fault(max_rect), new)
+        changed(self.main_dir, rect_fault(max_rect), new)
+    }
+
+    // With the region that is there then: zeros where it is refused.
+    pub fn region_from_max_rect_answer(self, max_rect: Rect) -> RegionAnswer
+        ensures { result ≡ checked_region_from_max_rect tick self max_rect }
+    {
+        let new = widgets::region_from_max_rect(self, max_rect);
+        let before = fault_number(rect_fault(max_rect));
+        changed_region(self.main_dir, before, zero_region(), new)
     }
 
     pub fn available_rect_before_wrap(self, region: Region) -> Result<Rect, Refusal>
@@ -46,7 +55,7 @@ impl Layout {
         ensures says { Says zero_rect (numbered result) (available_rect_before_wrap_number self region) (available_rect_before_wrap self.main_dir region) }
     {
         let rect = available::available_rect_before_wrap(self.main_dir, region);
-        placed_rect(region_fault(self.main_dir, region), rect)
+        placed(region_fault(self.main_dir, region), rect)
     }
 
     pub fn available_size(self, region: Region) -> Result<Vec2, Refusal>
@@ -54,7 +63,7 @@ impl Layout {
         ensures says { Says zero_vec (numbered result) (available_size_number self region) (available_size self region) }
     {
         let size = available::available_size(self, region);
-        let after = outside_domain(pair_fault(size.x, size.y));
+        let after = outside(pair_fault(size.x, size.y));
         answer(region_fault(self.main_dir, region).or(after), size)
     }
 
@@ -67,7 +76,7 @@ impl Layout {
         ensures says { Says zero_rect (numbered result) (available_from_cursor_max_rect_number self cursor max_rect) (available_from_cursor_max_rect self.main_dir cursor max_rect) }
     {
         let rect = available::available_from_cursor_max_rect(self.main_dir, cursor, max_rect);
-        placed_rect(
+        placed(
             first_of(cursor_fault(self.main_dir, cursor), rect_fault(max_rect)),
             rect,
         )
@@ -84,7 +93,7 @@ impl Layout {
     {
         let frame = frames::next_frame(self, region, child_size, spacing);
         let sizes = first_of(size_fault(child_size), pair_fault(spacing.x, spacing.y));
-        placed_rect(first_of(region_fault(self.main_dir, region), sizes), frame)
+        placed(first_of(region_fault(self.main_dir, region), sizes), frame)
     }
 
     pub fn next_frame_ignore_wrap(self, region: Region, child_size: Vec2) -> Result<Rect, Refusal>
@@ -92,7 +101,7 @@ impl Layout {
         ensures says { Says zero_rect (numbered result) (next_frame_ignore_wrap_number tick self region child_size) (next_frame_ignore_wrap tick self region child_size) }
     {
         let frame = frames::next_frame_ignore_wrap(self, region, child_size);
-        placed_rect(
+        placed(
             first_of(region_fault(self.main_dir, region), size_fault(child_size)),
             frame,
         )
@@ -103,7 +112,7 @@ impl Layout {
         ensures says { Says zero_rect (numbered result) (justify_and_align_number tick self frame child_size) (justify_and_align tick self frame child_size) }
     {
         let widget = widgets::justify_and_align(self, frame, child_size);
-        placed_rect(first_of(rect_fault(frame), size_fault(child_size)), widget)
+        placed(first_of(rect_fault(frame), size_fault(child_size)), widget)
     }
 
     pub fn next_widget_space_ignore_wrap_justify(
@@ -115,7 +124,7 @@ impl Layout {
         ensures says { Says zero_rect (numbered result) (next_widget_space_ignore_wrap_justify_number tick self region size) (next_widget_space_ignore_wrap_justify tick self region size) }
     {
         let rect = widgets::next_widget_space_ignore_wrap_justify(self, region, size);
-        placed_rect(
+        placed(
             first_of(region_fault(self.main_dir, region), size_fault(size)),
             rect,
         )
@@ -126,7 +135,7 @@ impl Layout {
         ensures says { Says zero_pos (numbered result) (next_widget_position_number tick self region) (next_widget_position tick self region) }
     {
         let pos = widgets::next_widget_position(self, region);
-        let after = outside_domain(pair_fault(pos.x, pos.y));
+        let after = outside(pair_fault(pos.x, pos.y));
         answer(region_fault(self.main_dir, region).or(after), pos)
     }
 
@@ -135,7 +144,7 @@ impl Layout {
     {
         let new = cursors::advance_cursor(self.main_dir, region, amount);
         let before = first_of(region_fault(self.main_dir, region), length_fault(amount));
-        changed_region(self.main_dir, before, new)
+        changed(self.main_dir, before, new)
     }
 
     pub fn advance_after_rects(
@@ -154,7 +163,7 @@ impl Layout {
         );
         let rects = first_of(rect_fault(frame_rect), rest);
         let before = first_of(cursor_fault(self.main_dir, cursor), rects);
-        let after = outside_domain(cursor_fault(self.main_dir, new));
+        let after = outside(cursor_fault(self.main_dir, new));
         answer(before.or(after), new)
     }
 
@@ -166,7 +175,7 @@ impl Layout {
             region_fault(self.main_dir, region),
             pair_fault(spacing.x, spacing.y),
         );
-        changed_region(self.main_dir, before, new)
+        changed(self.main_dir, before, new)
     }
 
     pub fn set_row_height(self, region: Region, height: f32) -> Result<Region, Refusal>
@@ -174,6 +183,6 @@ impl Layout {
     {
         let new = cursors::set_row_height(self, region, height);
         let before = first_of(region_fault(self.main_dir, region), length_fault(height));
-        changed_region(self.main_dir, before, new)
+        changed(self.main_dir, before, new)
     }
 }

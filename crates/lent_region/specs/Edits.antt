@@ -4,7 +4,7 @@ use Rattle.emath.specs.Refusals.{numbered, answer_number}
 use Rattle.emath.specs.declared.Vec2.{Vec2}
 use Rattle.layout.specs.declared.Layout.{Layout}
 use Rattle.region.specs.declared.Region.{Region}
-use Rattle.region.specs.Refusals.{RegionAnswer}
+use Rattle.region.specs.declared.RegionAnswer.{RegionAnswer}
 use Rattle.layout.specs.Operations.{checked_advance_cursor, checked_end_row}
 use Rattle.lent_region.specs.declared.Outcome.{Outcome}
 use Rattle.lent_region.specs.declared.Edited.{Edited}

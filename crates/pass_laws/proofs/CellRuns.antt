@@ -9,7 +9,7 @@ use borrow.Author.Tests.{eqb-true}
 use Rattle.emath.specs.declared.Vec2.{Vec2}
 use Rattle.grid.specs.declared.Memory.{Memory}
 use Rattle.placer.specs.declared.Placer.{Placer}
-use Rattle.placer.specs.Refusals.{PlacerAnswer}
+use Rattle.placer.specs.declared.PlacerAnswer.{PlacerAnswer}
 use Rattle.records.specs.declared.Step.{Step}
 use Rattle.records.specs.declared.Step.TheVariants.{Widget, Space, RowHeight, MaxWidth, MaxHeight, MinWidth, MinHeight, RowEnd}
 use Rattle.sheet.specs.Pass.{Sheet, Cell, Stepped, Ran, cell_of, widget_step, called, stepped, followed, run_from, headed, grid_set, begun, ran_with, pass}

@@ -5,9 +5,11 @@ use Rattle.emath.specs.Numbers as number
 use Rattle.emath.specs.Refusals.{when, least, or_else, length_fault, extent_fault, pair_fault, size_fault, rect_fault, outside, answer}
 use Rattle.region.specs.Refusals.{cursor_fault}
 use Rattle.region.specs.Operations.{placed_number}
-use Rattle.grid.specs.Refusals.{grid_fault, direction_fault, SavedAnswer, saved_answer}
+use Rattle.grid.specs.Refusals.{grid_fault, direction_fault, saved_answer}
+use Rattle.grid.specs.declared.SavedAnswer.{SavedAnswer}
 use Rattle.placer.specs.Rules.{new_placer, set_grid, save_grid, force_set_min_rect, set_cursor, align_size_within_rect, available_rect_before_wrap, available_size, next_space, next_widget_position, justify_and_align, advance_cursor, expand_to_include_rect, expand_to_include_x, expand_to_include_y, advance_after_rects, end_row, set_row_height, next_widget_space_ignore_wrap_justify, set_max_width, set_max_height, set_min_width, set_min_height}
-use Rattle.placer.specs.Refusals.{placer_fault, advance_fault, end_row_fault, zero_placer, PlacerAnswer, changed_placer}
+use Rattle.placer.specs.Refusals.{placer_fault, advance_fault, end_row_fault, zero_placer, changed_placer}
+use Rattle.placer.specs.declared.PlacerAnswer.{PlacerAnswer}
 use Rattle.emath.specs.declared.Rect.{Rect}
 use Rattle.emath.specs.declared.Pos2.{Pos2}
 use Rattle.emath.specs.declared.Vec2.{Vec2}

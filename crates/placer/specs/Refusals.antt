@@ -8,6 +8,7 @@ use Rattle.grid.specs.Grids.{empty_grid}
 use Rattle.grid.specs.Refusals.{grid_fault, direction_fault}
 use Rattle.layout.specs.declared.Layout.{Layout}
 use Rattle.placer.specs.declared.Placer.{Placer}
+use Rattle.placer.specs.declared.PlacerAnswer.{PlacerAnswer}
 
 -- RULES 8.5: the whole state: the region, and where there is a grid its state and 7 for a direction that no grid has
 unfoldable pub grid_part : Placer → ℕ
@@ -27,11 +28,6 @@ end_row_fault p = when (p.has_grid && leb 128 p.grid.row) number.grid_full
 -- RULES 8.4: there is no given placer: a refused `new` answers one whose region is all zero
 abbrev pub zero_placer : Layout → Placer
 zero_placer l = record { has_grid = false; grid = empty_grid; layout = l; region = zero_region }
-
--- RULES 8.4: a call that changes a placer: its number, and the placer, the given one where it is refused
-pub record PlacerAnswer : Type 0 where
-  pub number : ℕ
-  pub placer : Placer
 
 -- RULES 8.1, 8.4: what an answer says, where this placer was given
 abbrev pub placer_outcome : Placer → Result Placer Refusal → PlacerAnswer

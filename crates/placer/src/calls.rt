@@ -11,7 +11,7 @@ ghost use Rattle.placer.specs.Implementation.Lent.{placer_of, answer_of};
 
 use crate::faults::row_fault;
 use crate::{PassState, PlacerSettings, limits};
-use emath::faults::{answer, extent_fault, first_of, length_fault, outside_domain, pair_fault};
+use emath::faults::{answer, extent_fault, first_of, length_fault, outside, pair_fault};
 use emath::{Refusal, Vec2};
 use grid::lent;
 use layout::cursors;
@@ -27,7 +27,7 @@ fn settled(
 ) -> Result<PassState, Refusal>
     ensures { (pw ph ws hs : List Float) → placer_fault (placer_of placer state pw ph ws hs) ≡ 0 → answer_of placer state result pw ph ws hs ≡ changed_placer (least (placer_fault (placer_of placer state pw ph ws hs) ∷ fault_number before ∷ [])) (placer_of placer state pw ph ws hs) (with_region (placer_of placer state pw ph ws hs) region) }
 {
-    let after = outside_domain(region_fault(placer.layout.main_dir, region));
+    let after = outside(region_fault(placer.layout.main_dir, region));
     answer(before.or(after), PassState { region, ..state })
 }
 
@@ -139,7 +139,7 @@ fn row_ended(
         lent::ended_cursor(placer.grid, state.grid, heights, state.region.cursor),
     );
     let grid = lent::end_row(state.grid);
-    let after = outside_domain(region_fault(placer.layout.main_dir, region));
+    let after = outside(region_fault(placer.layout.main_dir, region));
     answer(before.or(after), PassState { region, grid })
 }
 

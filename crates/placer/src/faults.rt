@@ -1,13 +1,13 @@
-// The faults of a placer (RULES 8.5, 8.12), and what a call with such a fault answers (RULES 8.4).
+// The faults of a placer (RULES 8.5, 8.12), and what a call with such a fault answers (RULES 8.4), also by numbers.
 ghost use Rattle.std.specs.Prelude.{◌≡◌, ◌&&◌, [], ◌∷◌, leb};
 ghost use Rattle.emath.specs.Numbers as number;
 ghost use Rattle.emath.specs.Refusals.{when, least, fault_number};
 ghost use Rattle.placer.specs.declared.Placer.{Placer as Given};
-ghost use Rattle.placer.specs.Refusals.{grid_part, placer_fault, advance_fault, end_row_fault, zero_placer, placer_outcome, changed_placer};
+ghost use Rattle.placer.specs.Refusals.{grid_part, placer_fault, advance_fault, end_row_fault, zero_placer, placer_answer, placer_outcome, changed_placer};
 
-use crate::Placer;
+use crate::{Placer, PlacerAnswer};
 use emath::Refusal;
-use emath::faults::{answer, first_of, outside_domain};
+use emath::faults::{answer, fault_number, first_of, or_else, outside, outside_domain};
 use grid::faults::{direction_fault, grid_fault};
 use grid::grids::empty_grid;
 use grid::{MAX_COLS, MAX_ROWS};
@@ -76,9 +76,33 @@ pub fn zero_placer(layout: Layout) -> Placer
     }
 }
 
-// `before` is the arguments' fault.
-pub fn changed_placer(before: Option<Refusal>, new: Placer) -> Result<Placer, Refusal>
+pub fn placer_answer(n: u8, given: Placer, new: Placer) -> PlacerAnswer
+    ensures { result ≡ placer_answer n given new }
+{
+    if n == 0 {
+        PlacerAnswer {
+            number: n,
+            placer: new,
+        }
+    } else {
+        PlacerAnswer {
+            number: n,
+            placer: given,
+        }
+    }
+}
+
+// `before` is the arguments' number.
+pub fn changed_placer(before: u8, given: Placer, new: Placer) -> PlacerAnswer
+    ensures { result ≡ changed_placer before given new }
+{
+    let after = outside_domain(fault_number(placer_fault(new)));
+    placer_answer(or_else(before, after), given, new)
+}
+
+// The same by the fault.
+pub fn changed(before: Option<Refusal>, new: Placer) -> Result<Placer, Refusal>
     ensures { (given : Given) → placer_outcome given result ≡ changed_placer (fault_number before) given new }
 {
-    answer(before.or(outside_domain(placer_fault(new))), new)
+    answer(before.or(outside(placer_fault(new))), new)
 }

@@ -25,6 +25,14 @@ pub struct Placer {
     pub region: Region,
 }
 
+// A call that changes a placer, by numbers as the rules have it: its number (0: none; any byte), and the placer, the given one where it is
+// refused.
+#[derive(Clone, Copy)]
+pub struct PlacerAnswer {
+    pub number: u8,
+    pub placer: Placer,
+}
+
 // What a pass leaves as it is of a placer, without the arrays of its grid's memories, which are lent beside it.
 #[derive(Clone, Copy)]
 pub struct PlacerSettings {

@@ -1,14 +1,13 @@
 // Crate emath's numbers, rounding, domain and numbers of refusal.
-ghost use Rattle.std.specs.Prelude.{◌≡◌, ◌≤◌, false};
+ghost use Rattle.std.specs.Prelude.{◌≡◌, false};
 ghost use Rattle.std.specs.Float.{inf, nan};
-ghost use Rattle.emath.specs.Refusals.{when, lesser, or_else, outside, fault_number as number_of_fault};
+ghost use Rattle.emath.specs.Refusals.{when, lesser, or_else, outside};
 
+use emath::Vec2;
 use emath::faults::{
-    edges_fault, extent_fault, first_of, length_fault, outside_domain, pair_fault, rect_fault,
-    size_fault,
+    edges_fault, extent_fault, fault_number, length_fault, lesser_number, number_when, or_else,
+    outside_domain, pair_fault, rect_fault, size_fault,
 };
-use emath::{Refusal, Vec2};
-use probe_values::answers::fault_number;
 use probe_values::rects::rect_of;
 
 #[unsafe(no_mangle)]
@@ -96,55 +95,25 @@ pub extern "C" fn emath_vec2_is_negative(x: f32, y: f32) -> bool {
     v.is_negative()
 }
 
-// These four are of any byte, where emath's own are of refusals.
 #[unsafe(no_mangle)]
 pub extern "C" fn emath_faults_number_when(b: bool, n: u8) -> u8
     ensures { result ≡ when b n }
 {
-    if b { n } else { 0 }
+    number_when(b, n)
 }
 
 #[unsafe(no_mangle)]
-#[tactic(auto, unfolding(emath::specs::Refusals::or_else))]
 pub extern "C" fn emath_faults_or_else(n: u8, m: u8) -> u8
     ensures { result ≡ or_else n m }
 {
-    if n == 0 { m } else { n }
-}
-
-// The refusal of this number: none of 0. No TryFrom: neither type is of this crate.
-fn refusal_of(n: u8) -> Option<Refusal>
-    requires { n ≤ 9 }
-    ensures { number_of_fault result ≡ n }
-{
-    match n {
-        1 => Some(Refusal::Malformed),
-        2 => Some(Refusal::TooLong),
-        3 => Some(Refusal::NoRoom),
-        4 => Some(Refusal::NotFinite),
-        5 => Some(Refusal::TooFar),
-        6 => Some(Refusal::Negative),
-        7 => Some(Refusal::NotInGrid),
-        8 => Some(Refusal::GridFull),
-        9 => Some(Refusal::Outside),
-        _ => None,
-    }
+    or_else(n, m)
 }
 
 #[unsafe(no_mangle)]
 pub extern "C" fn emath_faults_lesser_number(a: u8, b: u8) -> u8
     ensures { result ≡ lesser a b }
 {
-    if a <= 9 && b <= 9 {
-        return fault_number(first_of(refusal_of(a), refusal_of(b)));
-    }
-    if a == 0 {
-        return b;
-    }
-    if b == 0 {
-        return a;
-    }
-    if a < b { a } else { b }
+    lesser_number(a, b)
 }
 
 #[unsafe(no_mangle)]
@@ -177,13 +146,9 @@ pub extern "C" fn emath_faults_rect_fault(r: &[f32; 4]) -> u8 {
     fault_number(rect_fault(rect_of(r)))
 }
 
-// A byte beyond 9 stands for the last: whatever the fault, the answer is one.
 #[unsafe(no_mangle)]
 pub extern "C" fn emath_faults_outside_domain(n: u8) -> u8
     ensures { result ≡ outside n }
 {
-    if n <= 9 {
-        return fault_number(outside_domain(refusal_of(n)));
-    }
-    fault_number(outside_domain(Some(Refusal::Outside)))
+    outside_domain(n)
 }

@@ -1,7 +1,28 @@
 // Memory's calls, each giving its answer's number.
-use probe_values::answers::{answer_value, number_of};
+use emath::Refusal;
+use grid::Memory;
+use probe_values::answers::answer_value;
 use probe_values::grids::{memory_of, put_memory};
 use probe_values::packing::{Counts, LENGTH, Lengths, PLACE};
+
+// As `answer_region` of probe_values.
+fn answer_memory(
+    out: &mut Lengths,
+    out_counts: &mut Counts,
+    given: &Memory,
+    a: &Result<Memory, Refusal>,
+) -> u8 {
+    match a {
+        Ok(new) => {
+            put_memory(out, out_counts, new);
+            0
+        }
+        Err(refusal) => {
+            put_memory(out, out_counts, given);
+            refusal.number()
+        }
+    }
+}
 
 #[unsafe(no_mangle)]
 pub extern "C" fn grid_memory_set_min_col_width(
@@ -11,9 +32,12 @@ pub extern "C" fn grid_memory_set_min_col_width(
     out_counts: &mut Counts,
 ) -> u8 {
     let m = memory_of(lengths, counts);
-    let a = m.set_min_col_width(counts[PLACE], lengths[LENGTH]);
-    put_memory(out, out_counts, a.unwrap_or(m));
-    number_of(a)
+    answer_memory(
+        out,
+        out_counts,
+        &m,
+        &m.set_min_col_width(counts[PLACE], lengths[LENGTH]),
+    )
 }
 
 #[unsafe(no_mangle)]
@@ -24,9 +48,12 @@ pub extern "C" fn grid_memory_set_min_row_height(
     out_counts: &mut Counts,
 ) -> u8 {
     let m = memory_of(lengths, counts);
-    let a = m.set_min_row_height(counts[PLACE], lengths[LENGTH]);
-    put_memory(out, out_counts, a.unwrap_or(m));
-    number_of(a)
+    answer_memory(
+        out,
+        out_counts,
+        &m,
+        &m.set_min_row_height(counts[PLACE], lengths[LENGTH]),
+    )
 }
 
 #[unsafe(no_mangle)]

@@ -1,13 +1,31 @@
 // GridLayout's calls that make or change a grid, or save it, each giving its answer's number.
-use grid::grids::empty_grid;
+use emath::Refusal;
 use grid::{GridLayout, Moved};
-use probe_values::answers::number_of;
-use probe_values::grids::{grid_of, memory_of, not_saved, put_grid, put_moved, put_saved};
+use probe_values::grids::{grid_of, memory_of, put_grid, put_moved, put_saved};
 use probe_values::layouts::{direction_of, region_of};
 use probe_values::packing::{
     CURSOR, Counts, KNOWN, Lengths, MAIN_DIR, MAX_CELL_SIZE, MIN_CELL_SIZE, NUM_COLUMNS, RECT, ROW,
     SIZING_PASS, SPACING, WIDGET_RECT, rect_at, vec2_at,
 };
+
+// As `answer_region` of probe_values.
+fn answer_moved(
+    out: &mut Lengths,
+    out_counts: &mut Counts,
+    given: &Moved,
+    a: &Result<Moved, Refusal>,
+) -> u8 {
+    match a {
+        Ok(new) => {
+            put_moved(out, out_counts, new);
+            0
+        }
+        Err(refusal) => {
+            put_moved(out, out_counts, given);
+            refusal.number()
+        }
+    }
+}
 
 // The options stand where a grid has them, and the start row where it has its row.
 #[unsafe(no_mangle)]
@@ -17,7 +35,7 @@ pub extern "C" fn grid_new(
     out: &mut Lengths,
     out_counts: &mut Counts,
 ) -> u8 {
-    let a = GridLayout::new(
+    let a = GridLayout::new_answer(
         direction_of(counts[MAIN_DIR]),
         region_of(lengths),
         counts[KNOWN] != 0,
@@ -29,8 +47,8 @@ pub extern "C" fn grid_new(
         counts[NUM_COLUMNS],
         counts[ROW],
     );
-    put_grid(out, out_counts, a.unwrap_or(empty_grid()));
-    number_of(a)
+    put_grid(out, out_counts, &a.grid);
+    a.number
 }
 
 #[unsafe(no_mangle)]
@@ -48,8 +66,7 @@ pub extern "C" fn grid_advance(
         rect_at(lengths, RECT),
         rect_at(lengths, WIDGET_RECT),
     );
-    put_moved(out, out_counts, a.unwrap_or(Moved { grid, cursor }));
-    number_of(a)
+    answer_moved(out, out_counts, &Moved { grid, cursor }, &a)
 }
 
 #[unsafe(no_mangle)]
@@ -62,8 +79,7 @@ pub extern "C" fn grid_end_row(
     let grid = grid_of(lengths, counts);
     let cursor = rect_at(lengths, CURSOR);
     let a = grid.end_row(direction_of(counts[MAIN_DIR]), cursor);
-    put_moved(out, out_counts, a.unwrap_or(Moved { grid, cursor }));
-    number_of(a)
+    answer_moved(out, out_counts, &Moved { grid, cursor }, &a)
 }
 
 #[unsafe(no_mangle)]
@@ -73,8 +89,7 @@ pub extern "C" fn grid_save(
     out: &mut Lengths,
     out_counts: &mut Counts,
 ) -> u8 {
-    let g = grid_of(lengths, counts);
-    let a = g.save();
-    put_saved(out, out_counts, a.unwrap_or(not_saved(g)));
-    number_of(a)
+    let a = grid_of(lengths, counts).save_answer();
+    put_saved(out, out_counts, &a.saved);
+    a.number
 }

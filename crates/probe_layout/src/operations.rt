@@ -1,12 +1,11 @@
 // Crate layout's operations, each giving its answer's number.
-use probe_values::answers::{answer_value, number_of};
+use probe_values::answers::{answer_region, answer_value, number_of};
 use probe_values::layouts::{direction_of, layout_of, put_region, region_of};
 use probe_values::packing::{
     CURSOR, Counts, ITEM_SPACING, LENGTH, Lengths, MAIN_DIR, MAX_RECT, RECT, SIZE, WIDGET_RECT,
     rect_at, vec2_at,
 };
 use probe_values::rects::Numbers;
-use region::faults::zero_region;
 
 #[unsafe(no_mangle)]
 pub extern "C" fn layout_region_expand_to_include_rect(
@@ -16,9 +15,11 @@ pub extern "C" fn layout_region_expand_to_include_rect(
 ) -> u8 {
     let g = region_of(lengths);
     let d = direction_of(counts[MAIN_DIR]);
-    let a = g.expand_to_include_rect(d, rect_at(lengths, RECT));
-    put_region(out, a.unwrap_or(g));
-    number_of(a)
+    answer_region(
+        out,
+        &g,
+        &g.expand_to_include_rect(d, rect_at(lengths, RECT)),
+    )
 }
 
 #[unsafe(no_mangle)]
@@ -29,9 +30,7 @@ pub extern "C" fn layout_region_expand_to_include_x(
 ) -> u8 {
     let g = region_of(lengths);
     let d = direction_of(counts[MAIN_DIR]);
-    let a = g.expand_to_include_x(d, lengths[LENGTH]);
-    put_region(out, a.unwrap_or(g));
-    number_of(a)
+    answer_region(out, &g, &g.expand_to_include_x(d, lengths[LENGTH]))
 }
 
 #[unsafe(no_mangle)]
@@ -42,9 +41,7 @@ pub extern "C" fn layout_region_expand_to_include_y(
 ) -> u8 {
     let g = region_of(lengths);
     let d = direction_of(counts[MAIN_DIR]);
-    let a = g.expand_to_include_y(d, lengths[LENGTH]);
-    put_region(out, a.unwrap_or(g));
-    number_of(a)
+    answer_region(out, &g, &g.expand_to_include_y(d, lengths[LENGTH]))
 }
 
 #[unsafe(no_mangle)]
@@ -77,9 +74,9 @@ pub extern "C" fn layout_region_from_max_rect(
     out: &mut Lengths,
 ) -> u8 {
     let l = layout_of(counts);
-    let a = l.region_from_max_rect(rect_at(lengths, MAX_RECT));
-    put_region(out, a.unwrap_or(zero_region()));
-    number_of(a)
+    let a = l.region_from_max_rect_answer(rect_at(lengths, MAX_RECT));
+    put_region(out, a.region);
+    a.number
 }
 
 #[unsafe(no_mangle)]
@@ -185,9 +182,7 @@ pub extern "C" fn layout_advance_cursor(
 ) -> u8 {
     let l = layout_of(counts);
     let g = region_of(lengths);
-    let a = l.advance_cursor(g, lengths[LENGTH]);
-    put_region(out, a.unwrap_or(g));
-    number_of(a)
+    answer_region(out, &g, &l.advance_cursor(g, lengths[LENGTH]))
 }
 
 #[unsafe(no_mangle)]
@@ -212,9 +207,7 @@ pub extern "C" fn layout_advance_after_rects(
 pub extern "C" fn layout_end_row(lengths: &Lengths, counts: &Counts, out: &mut Lengths) -> u8 {
     let l = layout_of(counts);
     let g = region_of(lengths);
-    let a = l.end_row(g, vec2_at(lengths, ITEM_SPACING));
-    put_region(out, a.unwrap_or(g));
-    number_of(a)
+    answer_region(out, &g, &l.end_row(g, vec2_at(lengths, ITEM_SPACING)))
 }
 
 #[unsafe(no_mangle)]
@@ -225,7 +218,5 @@ pub extern "C" fn layout_set_row_height(
 ) -> u8 {
     let l = layout_of(counts);
     let g = region_of(lengths);
-    let a = l.set_row_height(g, lengths[LENGTH]);
-    put_region(out, a.unwrap_or(g));
-    number_of(a)
+    answer_region(out, &g, &l.set_row_height(g, lengths[LENGTH]))
 }

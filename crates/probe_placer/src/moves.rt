@@ -1,8 +1,6 @@
 // The calls that make or change a placer, each giving its answer's number.
-use crate::placers::{placer_of, put_placer};
+use crate::placers::{answer_placer, placer_of, put_placer};
 use placer::Placer;
-use placer::faults::zero_placer;
-use probe_values::answers::number_of;
 use probe_values::grids::grid_of;
 use probe_values::layouts::layout_of;
 use probe_values::packing::{
@@ -16,10 +14,9 @@ pub extern "C" fn placer_new(
     out: &mut Lengths,
     out_counts: &mut Counts,
 ) -> u8 {
-    let l = layout_of(counts);
-    let a = Placer::new(rect_at(lengths, MAX_RECT), l);
-    put_placer(out, out_counts, a.unwrap_or(zero_placer(l)));
-    number_of(a)
+    let a = Placer::new_answer(rect_at(lengths, MAX_RECT), layout_of(counts));
+    put_placer(out, out_counts, &a.placer);
+    a.number
 }
 
 #[unsafe(no_mangle)]
@@ -33,8 +30,7 @@ pub extern "C" fn placer_set_grid(
 ) -> u8 {
     let p = placer_of(lengths, counts);
     let a = p.set_grid(grid_of(grid_lengths, grid_counts));
-    put_placer(out, out_counts, a.unwrap_or(p));
-    number_of(a)
+    answer_placer(out, out_counts, &p, &a)
 }
 
 #[unsafe(no_mangle)]
@@ -51,8 +47,7 @@ pub extern "C" fn placer_change_by_rect(
         1 => p.set_cursor(r),
         _ => p.expand_to_include_rect(r),
     };
-    put_placer(out, out_counts, a.unwrap_or(p));
-    number_of(a)
+    answer_placer(out, out_counts, &p, &a)
 }
 
 #[unsafe(no_mangle)]
@@ -74,8 +69,7 @@ pub extern "C" fn placer_change_by_length(
         6 => p.set_min_width(length),
         _ => p.set_min_height(length),
     };
-    put_placer(out, out_counts, a.unwrap_or(p));
-    number_of(a)
+    answer_placer(out, out_counts, &p, &a)
 }
 
 #[unsafe(no_mangle)]
@@ -91,8 +85,7 @@ pub extern "C" fn placer_advance_after_rects(
         rect_at(lengths, WIDGET_RECT),
         vec2_at(lengths, ITEM_SPACING),
     );
-    put_placer(out, out_counts, a.unwrap_or(p));
-    number_of(a)
+    answer_placer(out, out_counts, &p, &a)
 }
 
 #[unsafe(no_mangle)]
@@ -104,6 +97,5 @@ pub extern "C" fn placer_end_row(
 ) -> u8 {
     let p = placer_of(lengths, counts);
     let a = p.end_row(vec2_at(lengths, ITEM_SPACING));
-    put_placer(out, out_counts, a.unwrap_or(p));
-    number_of(a)
+    answer_placer(out, out_counts, &p, &a)
 }

@@ -1,7 +1,7 @@
 // The calls that read a placer, and save_grid.
 use crate::placers::placer_of;
-use probe_values::answers::{answer_value, number_of};
-use probe_values::grids::{not_saved, put_saved};
+use probe_values::answers::answer_value;
+use probe_values::grids::put_saved;
 use probe_values::packing::{CALL, Counts, ITEM_SPACING, Lengths, RECT, SIZE, rect_at, vec2_at};
 use probe_values::rects::Numbers;
 
@@ -73,8 +73,7 @@ pub extern "C" fn placer_save_grid(
     out: &mut Lengths,
     out_counts: &mut Counts,
 ) -> u8 {
-    let p = placer_of(lengths, counts);
-    let a = p.save_grid();
-    put_saved(out, out_counts, a.unwrap_or(not_saved(p.grid)));
-    number_of(a)
+    let a = placer_of(lengths, counts).save_grid_answer();
+    put_saved(out, out_counts, &a.saved);
+    a.number
 }

@@ -33,7 +33,7 @@ pub extern "C" fn sheet_pass(
     let m = memory_of(lengths, counts);
     let p = pass(text, counts[KNOWN] != 0, m, counts[SIZING_PASS] != 0, out);
     put_at(out_lengths, RECT, &p.plate.numbers());
-    put_memory(out_lengths, out_counts, p.memory);
+    put_memory(out_lengths, out_counts, &p.memory);
     out_counts[SAVE] = p.save as usize;
     put_laid(out_counts, p.laid)
 }

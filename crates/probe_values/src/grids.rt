@@ -25,7 +25,7 @@ fn memory_at(lengths: &Lengths, counts: &Counts, at: usize, counted: usize) -> M
     }
 }
 
-fn put_memory_at(lengths: &mut Lengths, counts: &mut Counts, at: usize, counted: usize, m: Memory)
+fn put_memory_at(lengths: &mut Lengths, counts: &mut Counts, at: usize, counted: usize, m: &Memory)
     requires at_bound { at + 160 ≤ 384 }
     requires counted_bound { counted + 2 ≤ 24 }
 {
@@ -39,7 +39,7 @@ pub fn memory_of(lengths: &Lengths, counts: &Counts) -> Memory {
     memory_at(lengths, counts, PREV_STATE, PREV_COUNTS)
 }
 
-pub fn put_memory(lengths: &mut Lengths, counts: &mut Counts, m: Memory) {
+pub fn put_memory(lengths: &mut Lengths, counts: &mut Counts, m: &Memory) {
     put_memory_at(lengths, counts, PREV_STATE, PREV_COUNTS, m);
 }
 
@@ -59,10 +59,10 @@ pub fn grid_of(lengths: &Lengths, counts: &Counts) -> GridLayout {
     }
 }
 
-pub fn put_grid(lengths: &mut Lengths, counts: &mut Counts, g: GridLayout) {
+pub fn put_grid(lengths: &mut Lengths, counts: &mut Counts, g: &GridLayout) {
     counts[IS_FIRST_FRAME] = g.is_first_frame as usize;
-    put_memory_at(lengths, counts, PREV_STATE, PREV_COUNTS, g.prev_state);
-    put_memory_at(lengths, counts, CURR_STATE, CURR_COUNTS, g.curr_state);
+    put_memory_at(lengths, counts, PREV_STATE, PREV_COUNTS, &g.prev_state);
+    put_memory_at(lengths, counts, CURR_STATE, CURR_COUNTS, &g.curr_state);
     put_at(lengths, INITIAL_AVAILABLE, &g.initial_available.numbers());
     counts[SIZING_PASS] = g.sizing_pass as usize;
     counts[NUM_COLUMNS] = g.num_columns;
@@ -73,20 +73,12 @@ pub fn put_grid(lengths: &mut Lengths, counts: &mut Counts, g: GridLayout) {
     counts[ROW] = g.row;
 }
 
-pub fn put_moved(lengths: &mut Lengths, counts: &mut Counts, moved: Moved) {
-    put_grid(lengths, counts, moved.grid);
+pub fn put_moved(lengths: &mut Lengths, counts: &mut Counts, moved: &Moved) {
+    put_grid(lengths, counts, &moved.grid);
     put_at(lengths, CURSOR, &moved.cursor.numbers());
 }
 
-pub fn put_saved(lengths: &mut Lengths, counts: &mut Counts, saved: Saved) {
-    put_memory(lengths, counts, saved.memory);
+pub fn put_saved(lengths: &mut Lengths, counts: &mut Counts, saved: &Saved) {
+    put_memory(lengths, counts, &saved.memory);
     counts[SAVE] = saved.save as usize;
-}
-
-// What a refused `save` leaves: the memory that the pass was given.
-pub fn not_saved(g: GridLayout) -> Saved {
-    Saved {
-        memory: g.prev_state,
-        save: false,
-    }
 }

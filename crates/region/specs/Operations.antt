@@ -2,10 +2,11 @@
 use Rattle.std.specs.Prelude.{ℕ, [], ◌∷◌, Float}
 use Rattle.emath.specs.Refusals.{least, or_else, length_fault, edges_fault, rect_fault, outside}
 use Rattle.region.specs.Regions.{expand_to_include_rect, expand_to_include_x, expand_to_include_y}
-use Rattle.region.specs.Refusals.{RegionAnswer, region_fault, region_answer}
+use Rattle.region.specs.Refusals.{region_fault, region_answer}
 use Rattle.emath.specs.declared.Rect.{Rect}
 use Rattle.region.specs.declared.Direction.{Direction}
 use Rattle.region.specs.declared.Region.{Region}
+use Rattle.region.specs.declared.RegionAnswer.{RegionAnswer}
 
 -- ---- the number of a call: the arguments', or else the answer's
 -- RULES 8.13: of a rectangle, 9 for a fault of its edges

@@ -10,6 +10,8 @@ use Rattle.emath.specs.declared.Pos2.{Pos2}
 use Rattle.region.specs.declared.Direction.{Direction}
 use Rattle.region.specs.declared.Direction.TheVariants.{LeftToRight, RightToLeft, TopDown, BottomUp}
 use Rattle.region.specs.declared.Region.{Region}
+use Rattle.region.specs.declared.RegionAnswer.{RegionAnswer}
+use Rattle.region.specs.declared.CursorAnswer.{CursorAnswer}
 
 -- ---- the faults of a state
 -- RULES 5.3: an open edge at its outward infinity counts as 0
@@ -41,14 +43,6 @@ abbrev pub zero_region : Region
 zero_region = record { min_rect = zero_rect; max_rect = zero_rect; cursor = zero_rect }
 
 -- the number, and the state: the new one, or the one that was given
-pub record RegionAnswer : Type 0 where
-  pub number : ℕ
-  pub region : Region
-
-pub record CursorAnswer : Type 0 where
-  pub number : ℕ
-  pub cursor : Rect
-
 unfoldable pub region_answer : ℕ → Region → Region → RegionAnswer
 region_answer n given new = record { number = n; region = cond (eqb n 0) new given }
 

@@ -3,7 +3,7 @@ ghost use Rattle.std.specs.Prelude.{◌≡◌};
 ghost use Rattle.region.specs.Refusals.{region_outcome};
 ghost use Rattle.region.specs.Operations.{checked_expand_to_include_rect, checked_expand_to_include_x, checked_expand_to_include_y};
 
-use crate::faults::{changed_region, region_fault};
+use crate::faults::{changed, region_fault};
 use crate::{Direction, Region, regions};
 use emath::faults::{first_of, length_fault, rect_fault};
 use emath::{Rect, Refusal};
@@ -14,7 +14,7 @@ impl Region {
     {
         let new = regions::expand_to_include_rect(self, rect);
         let before = first_of(region_fault(main_dir, self), rect_fault(rect));
-        changed_region(main_dir, before, new)
+        changed(main_dir, before, new)
     }
 
     pub fn expand_to_include_x(self, main_dir: Direction, x: f32) -> Result<Region, Refusal>
@@ -22,7 +22,7 @@ impl Region {
     {
         let new = regions::expand_to_include_x(self, x);
         let before = first_of(region_fault(main_dir, self), length_fault(x));
-        changed_region(main_dir, before, new)
+        changed(main_dir, before, new)
     }
 
     pub fn expand_to_include_y(self, main_dir: Direction, y: f32) -> Result<Region, Refusal>
@@ -30,6 +30,6 @@ impl Region {
     {
         let new = regions::expand_to_include_y(self, y);
         let before = first_of(region_fault(main_dir, self), length_fault(y));
-        changed_region(main_dir, before, new)
+        changed(main_dir, before, new)
     }
 }

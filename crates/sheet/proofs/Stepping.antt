@@ -6,7 +6,7 @@ use Prim.Native.Nat.{ℕ}
 use native.Mathlib.Omega.{arith}
 use lib.Dec.{eqb}
 use lib.ListN.{length}
-use borrow.Author.Tests.{eq-eqb, eqb-true}
+use borrow.Author.Tests.{eq-eqb, eqb-true, ne_eqb}
 use Rattle.emath.specs.Steps.{tick}
 use Rattle.emath.specs.Domain.{within, edges_of}
 use Rattle.emath.specs.Refusals.{lesser, least, or_else, size_fault, pair_fault, edges_fault, outside}
@@ -21,7 +21,7 @@ use Rattle.placer.specs.Implementation.Lent.{past_part}
 use Rattle.placer.proofs.Answers.{changed-accepted}
 use Rattle.placer.proofs.Unfaulted.{past-fault}
 use Rattle.placer.specs.declared.Placer.{Placer}
-use Rattle.placer.specs.Refusals.{PlacerAnswer}
+use Rattle.placer.specs.declared.PlacerAnswer.{PlacerAnswer}
 use Rattle.layout.specs.declared.Layout.{Layout}
 use Rattle.grid.specs.declared.Memory.{Memory}
 use Rattle.records.specs.declared.Heading.{Heading}
@@ -71,6 +71,10 @@ module _ (p : Placer) (sp s : Vec2) (none : placer_fault p ≡ 0) (cols : length
   module _ (f w : Rect) (ef : f ≡ next_space tick p s sp) (ew : w ≡ justify_and_align tick p f s) (n : ℕ) (en : n ≡ or_else (given_number p sp s) (answered_number f w (past_part p (advance_after_rects p f w sp).region w))) where
     fault : n ≡ widget_fault sp p s (cell_of tick sp p s)
     fault = en ∙ number_is f w ∙ rw (ew, ef)
+
+    pub placement-refused : (n ≡ 0 → ⊥) → record { number = n; placer = p; placed = 1; frame = f; widget = w } ≡ placement p sp s
+    unfolding placement widget_step
+    placement-refused h = rw (← fault, ne_eqb n 0 h, ew, ef)
 
     pub placement-number : (placement p sp s).number ≡ n
     unfolding placement widget_step

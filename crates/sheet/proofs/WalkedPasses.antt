@@ -15,7 +15,7 @@ use Rattle.placer.specs.Refusals.{placer_outcome}
 use Rattle.emath.specs.declared.Vec2.{Vec2}
 use Rattle.grid.specs.declared.Memory.{Memory}
 use Rattle.placer.specs.declared.Placer.{Placer}
-use Rattle.placer.specs.Refusals.{PlacerAnswer}
+use Rattle.placer.specs.declared.PlacerAnswer.{PlacerAnswer}
 use Rattle.records.specs.Headings.{heading_in}
 use Rattle.records.specs.Sheets.{checked}
 use Rattle.records.specs.declared.Heading.{Heading}

@@ -8,13 +8,13 @@ use Rattle.emath.specs.declared.Vec2.{Vec2}
 use Rattle.region.specs.Refusals.{zero_rect}
 use Rattle.grid.specs.Operations.{checked_new as checked_new_grid}
 use Rattle.grid.specs.declared.Memory.{Memory}
-use Rattle.grid.specs.Refusals.{GridAnswer}
+use Rattle.grid.specs.declared.GridAnswer.{GridAnswer}
 use Rattle.grid.specs.declared.Saved.{Saved}
 use Rattle.placer.specs.Rules.{save_grid, next_space, justify_and_align, advance_after_rects}
 use Rattle.placer.specs.Refusals.{placer_fault, advance_fault}
 use Rattle.placer.specs.Operations.{checked_new, checked_set_grid, checked_advance_cursor, checked_end_row, checked_set_row_height, checked_set_max_width, checked_set_max_height, checked_set_min_width, checked_set_min_height}
 use Rattle.placer.specs.declared.Placer.{Placer}
-use Rattle.placer.specs.Refusals.{PlacerAnswer}
+use Rattle.placer.specs.declared.PlacerAnswer.{PlacerAnswer}
 use Rattle.records.specs.declared.Heading.{Heading}
 use Rattle.records.specs.declared.Step.{Step}
 use Rattle.records.specs.declared.Step.TheVariants.{Widget, Space, RowHeight, MaxWidth, MaxHeight, MinWidth, MinHeight, RowEnd}

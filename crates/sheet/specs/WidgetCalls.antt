@@ -7,7 +7,7 @@ use Rattle.emath.specs.declared.Rect.{Rect}
 use Rattle.placer.specs.Refusals.{advance_fault}
 use Rattle.placer.specs.Operations.{checked_next_space, checked_justify_and_align, checked_advance_after_rects}
 use Rattle.placer.specs.declared.Placer.{Placer}
-use Rattle.placer.specs.Refusals.{PlacerAnswer}
+use Rattle.placer.specs.declared.PlacerAnswer.{PlacerAnswer}
 use Rattle.sheet.specs.Pass.{cell_of, widget_step}
 
 -- ---- RULES 8.18: the calls

@@ -51,7 +51,7 @@ fn place(
     size: Vec2,
 ) -> Result<Stepped, Refusal>
     requires { Ready placer state prev_widths.now prev_heights.now widths.old heights.old }
-    ensures { Gives placer result prev_widths.now prev_heights.now widths.new heights.new (placement (placer_of placer state prev_widths.now prev_heights.now widths.old heights.old) spacing size) }
+    ensures { Gives placer state result prev_widths.now prev_heights.now widths.new heights.new (placement (placer_of placer state prev_widths.now prev_heights.now widths.old heights.old) spacing size) }
 {
     let frame = lent::next_space(placer, state, prev_widths, prev_heights, size, spacing);
     let widget = lent::justify_and_align(placer, state, frame, size);
@@ -70,7 +70,7 @@ fn place(
 
 // A step that is one call.
 fn called(a: Result<PassState, Refusal>) -> Result<Stepped, Refusal>
-    ensures { (p : Settings) (s : Given) (pw ph ws hs : List Float) → Gives p result pw ph ws hs (called_by (answer_of p s a pw ph ws hs)) }
+    ensures { (p : Settings) (s : Given) (pw ph ws hs : List Float) → Gives p s result pw ph ws hs (called_by (answer_of p s a pw ph ws hs)) }
 {
     let state = a?;
     Ok(Stepped { state, cell: None })
@@ -88,7 +88,7 @@ fn run_step(
     st: Step,
 ) -> Result<Stepped, Refusal>
     requires { Ready placer state prev_widths.now prev_heights.now widths.old heights.old }
-    ensures { Gives placer result prev_widths.now prev_heights.now widths.new heights.new (step_result (placer_of placer state prev_widths.now prev_heights.now widths.old heights.old) spacing st) }
+    ensures { Gives placer state result prev_widths.now prev_heights.now widths.new heights.new (step_result (placer_of placer state prev_widths.now prev_heights.now widths.old heights.old) spacing st) }
 {
     match st {
         Step::Widget(x, y) => place(
@@ -123,7 +123,7 @@ pub fn run_record(
     r: Option<Step>,
 ) -> Result<Stepped, Refusal>
     requires { Ready placer state prev_widths.now prev_heights.now widths.old heights.old }
-    ensures { Gives placer result prev_widths.now prev_heights.now widths.new heights.new (record_result (placer_of placer state prev_widths.now prev_heights.now widths.old heights.old) spacing r) }
+    ensures { Gives placer state result prev_widths.now prev_heights.now widths.new heights.new (record_result (placer_of placer state prev_widths.now prev_heights.now widths.old heights.old) spacing r) }
 {
     let Some(st) = r else {
         return Err(Refusal::Malformed);

@@ -161,9 +161,9 @@ module _ {n r : ℕ} {o : List ℕ} (p : DigitsPut n (spaces 8) 8 r o) where
       (column-more true n (8 - r) r (r - 1) 45 (spaces 8) o (omega arith) (p.written true) (minus-next p.digits))
 
 -- the minus has room left of the digits
-pub minus-room : (neg : Bool) (r : ℕ) → neg && ltb 0 r ≡ true → 0 < r
-minus-room true r t = ltb-true 0 r t
-minus-room false r t = absurd (true≢false (sym t))
+pub minus-room : (neg : Bool) (at r : ℕ) → neg && ltb at r ≡ true → at < r
+minus-room true at r t = ltb-true at r t
+minus-room false at r t = absurd (true≢false (sym t))
 
 -- ---- put_signed
 -- eight columns of a slice that became a text

@@ -121,7 +121,6 @@ pub fn has_text(z: i32) -> bool
 }
 
 pub fn magnitude(z: i32) -> u32
-    requires { nat_abs z < 100000000 }
     ensures { result ≡ nat_abs z }
 {
     z.unsigned_abs()

@@ -8,7 +8,7 @@ use Rattle.layout.specs.declared.Layout.{Layout}
 use Rattle.region.specs.declared.Region.{Region}
 use Rattle.grid.specs.Implementation.Lent.{grid_of, noted_size, settings_of as grid_settings, state_of as grid_state}
 use Rattle.grid.specs.declared.GridLayout.{GridLayout}
-use Rattle.placer.specs.Refusals.{PlacerAnswer}
+use Rattle.placer.specs.declared.PlacerAnswer.{PlacerAnswer}
 use Rattle.placer.specs.declared.Placer.{Placer}
 use Rattle.placer.specs.declared.PlacerSettings.{PlacerSettings}
 use Rattle.placer.specs.declared.PassState.{PassState}

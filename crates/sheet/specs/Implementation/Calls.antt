@@ -10,7 +10,7 @@ use Rattle.placer.specs.Refusals.{placer_fault, advance_fault}
 use Rattle.placer.specs.Operations.{checked_advance_cursor, checked_end_row, checked_set_row_height, checked_set_max_width, checked_set_max_height, checked_set_min_width, checked_set_min_height}
 use Rattle.placer.specs.Implementation.Lent.{placer_of}
 use Rattle.placer.specs.declared.Placer.{Placer}
-use Rattle.placer.specs.Refusals.{PlacerAnswer}
+use Rattle.placer.specs.declared.PlacerAnswer.{PlacerAnswer}
 use Rattle.placer.specs.declared.PlacerSettings.{PlacerSettings}
 use Rattle.placer.specs.declared.PassState.{PassState}
 use Rattle.records.specs.declared.Step.{Step}
@@ -42,10 +42,10 @@ abbrev pub widget_of : Option Placed → Rect
 widget_of None = zero_rect
 widget_of (Some c) = c.widget
 
--- the code's answer is this, its placer with the arrays that are lent: of a refusal the number counts
-abbrev pub Gives : PlacerSettings → Result Stepped Refusal → List Float → List Float → List Float → List Float → CallResult → Type 0
-Gives p (Ok m) pw ph ws hs c = c ≡ record { number = 0; placer = placer_of p m.state pw ph ws hs; placed = placed_of m.cell; frame = frame_of m.cell; widget = widget_of m.cell }
-Gives p (Err e) pw ph ws hs c = c.number ≡ number_of e
+-- the code's answer is this, its placer with the arrays that are lent; of a refusal the number, and the placer that was given
+abbrev pub Gives : PlacerSettings → PassState → Result Stepped Refusal → List Float → List Float → List Float → List Float → CallResult → Type 0
+Gives p s (Ok m) pw ph ws hs c = c ≡ record { number = 0; placer = placer_of p m.state pw ph ws hs; placed = placed_of m.cell; frame = frame_of m.cell; widget = widget_of m.cell }
+Gives p s (Err e) pw ph ws hs c = (c.number ≡ number_of e) × (c.placer ≡ placer_of p s pw ph ws hs)
 
 -- a placer without a fault, and arrays that are as long as a memory's
 pub record Ready (p : PlacerSettings) (s : PassState) (pw ph ws hs : List Float) : Type 0 where

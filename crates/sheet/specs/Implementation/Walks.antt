@@ -6,13 +6,14 @@ use Rattle.emath.specs.Rectangles.{union}
 use Rattle.emath.specs.Steps.{tick}
 use Rattle.emath.specs.Refusals.{number_of}
 use Rattle.emath.specs.declared.Refusal.{Refusal}
-use Rattle.placer.specs.Refusals.{PlacerAnswer}
+use Rattle.placer.specs.declared.PlacerAnswer.{PlacerAnswer}
 use Rattle.emath.specs.declared.Rect.{Rect}
 use Rattle.emath.specs.declared.Vec2.{Vec2}
 use Rattle.grid.specs.declared.Memory.{Memory}
 use Rattle.placer.specs.Implementation.Lent.{placer_of}
 use Rattle.placer.specs.declared.Placer.{Placer}
 use Rattle.placer.specs.declared.PlacerSettings.{PlacerSettings}
+use Rattle.placer.specs.declared.PassState.{PassState}
 use Rattle.records.specs.Sheets.{most_records, records_from, widgets, checked}
 use Rattle.records.specs.Headings.{heading_in}
 use Rattle.records.specs.Implementation.SizeCache.{AreCached}
@@ -50,10 +51,10 @@ pub record Run : Type 0 where
   pub placer : Placer
   pub plate : Rect
 
--- the code's answer is this, its placer with the arrays that are lent: of a refusal the number and the record count
+-- the code's answer is this, its placer with the arrays that are lent; of a refusal the number, the record and a placer with these arrays
 abbrev pub Comes : PlacerSettings → Result Came SheetRefusal → List Float → List Float → List Float → List Float → Run → Type 0
 Comes p (Ok a) pw ph ws hs r = r ≡ record { number = 0; at = 0; placer = placer_of p a.state pw ph ws hs; plate = a.plate }
-Comes p (Err e) pw ph ws hs r = (r.number ≡ number_of e.refusal) × (r.at ≡ e.record)
+Comes p (Err e) pw ph ws hs r = (r.number ≡ number_of e.refusal) × (r.at ≡ e.record) × ((s : PassState) × (r.placer ≡ placer_of p s pw ph ws hs))
 
 -- the code's answer to a call that gives a placer is this
 abbrev pub Sets : Result Placer Refusal → PlacerAnswer → Type 0

@@ -6,4 +6,4 @@ use Rattle.grid.proofs.GridLayout.advance.Goals as goal
 
 pub returns : goal.returns
 unfolding checked_advance least
-returns c = rw (c.answer.ensures, moved-outcome, c.or.ensures, or-number, c.outside_domain-after.ensures, c.moved_fault.ensures, c.first_of-before.ensures, c.first_of-2.ensures, c.cursor_fault.ensures, c.grid_fault.ensures, c.first_of-rects.ensures, c.first_of.ensures, c.rect_fault-2.ensures, c.rect_fault.ensures, c.first_of-place.ensures, c.direction_fault.ensures, c.first_of-room.ensures, c.then_some-2.ensures, when-number, c.then_some.ensures, when-number, c.advance-new.ensures)
+returns c = rw (c.answer.ensures, moved-outcome, c.or.ensures, or-number, c.outside-after.ensures, c.moved_fault.ensures, c.first_of-before.ensures, c.first_of-2.ensures, c.cursor_fault.ensures, c.grid_fault.ensures, c.first_of-rects.ensures, c.first_of.ensures, c.rect_fault-2.ensures, c.rect_fault.ensures, c.first_of-place.ensures, c.direction_fault.ensures, c.first_of-room.ensures, c.then_some-2.ensures, when-number, c.then_some.ensures, when-number, c.advance-new.ensures)

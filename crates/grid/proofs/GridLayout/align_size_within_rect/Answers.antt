@@ -6,4 +6,4 @@ use Rattle.grid.proofs.GridLayout.align_size_within_rect.Goals as goal
 
 pub returns : goal.returns
 unfolding checked_align_size_within_rect align_size_within_rect_number least
-returns c = rw (c.placed_rect.ensures, c.first_of.ensures, c.grid_fault.ensures, c.first_of-rest.ensures, c.rect_fault.ensures, c.size_fault.ensures, c.align_size_within_rect-rect.ensures) (record { answer = refl; says = says _ _ _ })
+returns c = rw (c.placed.ensures, c.first_of.ensures, c.grid_fault.ensures, c.first_of-rest.ensures, c.rect_fault.ensures, c.size_fault.ensures, c.align_size_within_rect-rect.ensures) (record { answer = refl; says = says _ _ _ })

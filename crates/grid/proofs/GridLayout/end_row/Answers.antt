@@ -6,4 +6,4 @@ use Rattle.grid.proofs.GridLayout.end_row.Goals as goal
 
 pub returns : goal.returns
 unfolding checked_end_row least
-returns c = rw (c.answer.ensures, moved-outcome, c.or.ensures, or-number, c.outside_domain-after.ensures, c.moved_fault.ensures, c.first_of-before.ensures, c.first_of.ensures, c.cursor_fault.ensures, c.grid_fault.ensures, c.first_of-place.ensures, c.then_some.ensures, when-number, c.direction_fault.ensures, c.end_row-new.ensures)
+returns c = rw (c.answer.ensures, moved-outcome, c.or.ensures, or-number, c.outside-after.ensures, c.moved_fault.ensures, c.first_of-before.ensures, c.first_of.ensures, c.cursor_fault.ensures, c.grid_fault.ensures, c.first_of-place.ensures, c.then_some.ensures, when-number, c.direction_fault.ensures, c.end_row-new.ensures)

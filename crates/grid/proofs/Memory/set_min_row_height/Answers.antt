@@ -6,4 +6,4 @@ use Rattle.grid.proofs.Memory.set_min_row_height.Goals as goal
 
 pub returns : goal.returns
 unfolding checked_set_min_row_height least
-returns c = rw (c.answer.ensures, memory-outcome, c.or.ensures, or-number, c.outside_domain.ensures, c.memory_fault-2.ensures, c.first_of-before.ensures, c.memory_fault.ensures, c.first_of-rest.ensures, c.then_some.ensures, when-number, c.extent_fault.ensures, c.set_min_row_height-new.ensures)
+returns c = rw (c.answer.ensures, memory-outcome, c.or.ensures, or-number, c.outside.ensures, c.memory_fault-2.ensures, c.first_of-before.ensures, c.memory_fault.ensures, c.first_of-rest.ensures, c.then_some.ensures, when-number, c.extent_fault.ensures, c.set_min_row_height-new.ensures)

@@ -1,7 +1,10 @@
-use Rattle.std.proofs.Common.{◌∙◌}
+use Rattle.std.proofs.Common.{sym, ◌∙◌}
 use Rattle.emath.proofs.Refusals.{zero-lesser}
-use Rattle.grid.proofs.Turns.{fault-turn, fault-end}
+use Rattle.grid.proofs.Turns.{fault-turn, fault-end, sound-end}
 use Rattle.grid.proofs.entries.entries_fault.Goals as goal
+
+pub returns-then-are_sound : goal.returns-then-are_sound
+returns-then-are_sound c = sym (sound-end _ (sym c.are_sound.ensures ∙ c.if-are_sound.true))
 
 pub loop-x-init : goal.loop-x-init
 loop-x-init c = zero-lesser _

@@ -5,4 +5,4 @@ use Rattle.layout.proofs.Layout.available_rect_before_wrap.Goals as goal
 
 pub returns : goal.returns
 unfolding checked_available_rect_before_wrap available_rect_before_wrap_number
-returns c = rw (c.placed_rect.ensures, c.region_fault.ensures, c.available_rect_before_wrap-rect.ensures) (record { answer = refl; says = says _ _ _ })
+returns c = rw (c.placed.ensures, c.region_fault.ensures, c.available_rect_before_wrap-rect.ensures) (record { answer = refl; says = says _ _ _ })

@@ -4,4 +4,4 @@ use Rattle.layout.proofs.Layout.end_row.Goals as goal
 
 pub returns : goal.returns
 unfolding checked_end_row least
-returns c = rw (c.changed_region.ensures, c.first_of-before.ensures, c.pair_fault.ensures, c.region_fault.ensures, c.end_row-new.ensures)
+returns c = rw (c.changed.ensures, c.first_of-before.ensures, c.pair_fault.ensures, c.region_fault.ensures, c.end_row-new.ensures)

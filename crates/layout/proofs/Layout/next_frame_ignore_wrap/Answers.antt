@@ -6,4 +6,4 @@ use Rattle.layout.proofs.Layout.next_frame_ignore_wrap.Goals as goal
 
 pub returns : goal.returns
 unfolding checked_next_frame_ignore_wrap next_frame_ignore_wrap_number least
-returns c = rw (c.placed_rect.ensures, c.first_of.ensures, c.size_fault.ensures, c.region_fault.ensures, c.next_frame_ignore_wrap-frame.ensures) (record { answer = refl; says = says _ _ _ })
+returns c = rw (c.placed.ensures, c.first_of.ensures, c.size_fault.ensures, c.region_fault.ensures, c.next_frame_ignore_wrap-frame.ensures) (record { answer = refl; says = says _ _ _ })

@@ -3,4 +3,4 @@ use Rattle.layout.proofs.Layout.region_from_max_rect.Goals as goal
 
 pub returns : goal.returns
 unfolding checked_region_from_max_rect
-returns c = rw (c.changed_region.ensures, c.rect_fault.ensures, c.region_from_max_rect-new.ensures)
+returns c = rw (c.changed.ensures, c.rect_fault.ensures, c.region_from_max_rect-new.ensures)

@@ -5,4 +5,4 @@ use Rattle.placer.proofs.Placer.advance_cursor.Goals as goal
 
 pub returns : goal.returns
 unfolding checked_advance_cursor least
-returns c = rw (c.changed_placer.ensures, c.first_of.ensures, c.placer_fault.ensures, c.first_of-rest.ensures, c.then_some.ensures, when-number, c.length_fault.ensures, c.advance_cursor-new.ensures)
+returns c = rw (c.changed.ensures, c.first_of.ensures, c.placer_fault.ensures, c.first_of-rest.ensures, c.then_some.ensures, when-number, c.length_fault.ensures, c.advance_cursor-new.ensures)

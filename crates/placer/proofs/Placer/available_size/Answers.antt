@@ -5,4 +5,4 @@ use Rattle.placer.proofs.Placer.available_size.Goals as goal
 
 pub returns : goal.returns
 unfolding checked_available_size available_size_number
-returns c = rw (c.answer.ensures, numbered-answer, c.or.ensures, or-number, c.placer_fault.ensures, c.outside_domain-after.ensures, c.pair_fault.ensures, c.available_size-size.ensures) (record { answer = refl; says = says _ _ _ })
+returns c = rw (c.answer.ensures, numbered-answer, c.or.ensures, or-number, c.placer_fault.ensures, c.outside-after.ensures, c.pair_fault.ensures, c.available_size-size.ensures) (record { answer = refl; says = says _ _ _ })

@@ -4,4 +4,4 @@ use Rattle.placer.proofs.Placer.end_row.Goals as goal
 
 pub returns : goal.returns
 unfolding checked_end_row least
-returns c = rw (c.changed_placer.ensures, c.first_of.ensures, c.placer_fault.ensures, c.first_of-rest.ensures, c.end_row_fault.ensures, c.pair_fault.ensures, c.end_row-new.ensures)
+returns c = rw (c.changed.ensures, c.first_of.ensures, c.placer_fault.ensures, c.first_of-rest.ensures, c.end_row_fault.ensures, c.pair_fault.ensures, c.end_row-new.ensures)

@@ -4,4 +4,4 @@ use Rattle.placer.proofs.Placer.expand_to_include_x.Goals as goal
 
 pub returns : goal.returns
 unfolding checked_expand_to_include_x least
-returns c = rw (c.changed_placer.ensures, c.first_of.ensures, c.length_fault.ensures, c.placer_fault.ensures, c.expand_to_include_x-new.ensures)
+returns c = rw (c.changed.ensures, c.first_of.ensures, c.length_fault.ensures, c.placer_fault.ensures, c.expand_to_include_x-new.ensures)

@@ -3,4 +3,4 @@ use Rattle.placer.proofs.Placer.new.Goals as goal
 
 pub returns : goal.returns
 unfolding checked_new
-returns c = rw (c.changed_placer.ensures, c.rect_fault.ensures, c.new_placer-new.ensures)
+returns c = rw (c.changed.ensures, c.rect_fault.ensures, c.new_placer-new.ensures)

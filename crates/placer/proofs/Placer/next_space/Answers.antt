@@ -6,4 +6,4 @@ use Rattle.placer.proofs.Placer.next_space.Goals as goal
 
 pub returns : goal.returns
 unfolding checked_next_space next_space_number least
-returns c = rw (c.placed_rect.ensures, c.first_of.ensures, c.placer_fault.ensures, c.first_of-rest.ensures, c.pair_fault.ensures, c.size_fault.ensures, c.next_space-frame.ensures) (record { answer = refl; says = says _ _ _ })
+returns c = rw (c.placed.ensures, c.first_of.ensures, c.placer_fault.ensures, c.first_of-rest.ensures, c.pair_fault.ensures, c.size_fault.ensures, c.next_space-frame.ensures) (record { answer = refl; says = says _ _ _ })

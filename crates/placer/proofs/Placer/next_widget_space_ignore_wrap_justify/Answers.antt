@@ -6,4 +6,4 @@ use Rattle.placer.proofs.Placer.next_widget_space_ignore_wrap_justify.Goals as g
 
 pub returns : goal.returns
 unfolding checked_next_widget_space_ignore_wrap_justify next_widget_space_ignore_wrap_justify_number least
-returns c = rw (c.placed_rect.ensures, c.first_of.ensures, c.size_fault.ensures, c.placer_fault.ensures, c.next_widget_space_ignore_wrap_justify-rect.ensures) (record { answer = refl; says = says _ _ _ })
+returns c = rw (c.placed.ensures, c.first_of.ensures, c.size_fault.ensures, c.placer_fault.ensures, c.next_widget_space_ignore_wrap_justify-rect.ensures) (record { answer = refl; says = says _ _ _ })

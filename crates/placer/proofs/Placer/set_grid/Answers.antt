@@ -4,4 +4,4 @@ use Rattle.placer.proofs.Placer.set_grid.Goals as goal
 
 pub returns : goal.returns
 unfolding checked_set_grid least
-returns c = rw (c.changed_placer.ensures, c.first_of.ensures, c.placer_fault.ensures, c.first_of-rest.ensures, c.direction_fault.ensures, c.grid_fault.ensures, c.set_grid-new.ensures)
+returns c = rw (c.changed.ensures, c.first_of.ensures, c.placer_fault.ensures, c.first_of-rest.ensures, c.direction_fault.ensures, c.grid_fault.ensures, c.set_grid-new.ensures)

@@ -4,4 +4,4 @@ use Rattle.placer.proofs.Placer.set_max_width.Goals as goal
 
 pub returns : goal.returns
 unfolding checked_set_max_width least
-returns c = rw (c.changed_placer.ensures, c.first_of.ensures, c.extent_fault.ensures, c.placer_fault.ensures, c.set_max_width-new.ensures)
+returns c = rw (c.changed.ensures, c.first_of.ensures, c.extent_fault.ensures, c.placer_fault.ensures, c.set_max_width-new.ensures)

@@ -4,4 +4,4 @@ use Rattle.placer.proofs.Placer.set_row_height.Goals as goal
 
 pub returns : goal.returns
 unfolding checked_set_row_height least
-returns c = rw (c.changed_placer.ensures, c.first_of.ensures, c.length_fault.ensures, c.placer_fault.ensures, c.set_row_height-new.ensures)
+returns c = rw (c.changed.ensures, c.first_of.ensures, c.length_fault.ensures, c.placer_fault.ensures, c.set_row_height-new.ensures)

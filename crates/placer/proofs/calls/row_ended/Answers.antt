@@ -6,4 +6,4 @@ use Rattle.placer.proofs.Answers.{state-outcome}
 use Rattle.placer.proofs.calls.row_ended.Goals as goal
 
 pub returns : goal.returns
-returns c pw ph ws sp on e = let a = c.args in let p = placer_of a.placer a.state pw ph ws a.heights.now in rw (c.answer.ensures, state-outcome, c.or.ensures, or-number, c.outside_domain-after.ensures, c.region_fault.ensures, c.end_row-grid.ensures a.placer.grid pw ph ws a.heights.now a.state.region.cursor, c.with_cursor-region.ensures, c.ended_cursor.ensures pw ph ws) (row-ended-is p e on (fault_number a.before) sp)
+returns c pw ph ws sp on e = let a = c.args in let p = placer_of a.placer a.state pw ph ws a.heights.now in rw (c.answer.ensures, state-outcome, c.or.ensures, or-number, c.outside-after.ensures, c.region_fault.ensures, c.end_row-grid.ensures a.placer.grid pw ph ws a.heights.now a.state.region.cursor, c.with_cursor-region.ensures, c.ended_cursor.ensures pw ph ws) (row-ended-is p e on (fault_number a.before) sp)

@@ -1,8 +1,6 @@
 use Rattle.placer.specs.Refusals.{changed_placer}
-use Rattle.emath.proofs.Refusals.{or-number}
-use Rattle.placer.proofs.Answers.{placer-outcome}
 use Rattle.placer.proofs.faults.changed_placer.Goals as goal
 
 pub returns : goal.returns
 unfolding changed_placer
-returns c given = rw (c.answer.ensures, placer-outcome, c.or.ensures, or-number, c.outside_domain.ensures, c.placer_fault.ensures)
+returns c = rw (c.placer_answer.ensures, c.or_else.ensures, c.outside_domain-after.ensures, c.fault_number.ensures, c.placer_fault.ensures)

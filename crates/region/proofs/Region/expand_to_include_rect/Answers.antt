@@ -4,4 +4,4 @@ use Rattle.region.proofs.Region.expand_to_include_rect.Goals as goal
 
 pub returns : goal.returns
 unfolding checked_expand_to_include_rect least
-returns c = rw (c.changed_region.ensures, c.first_of-before.ensures, c.rect_fault.ensures, c.region_fault.ensures, c.expand_to_include_rect-new.ensures)
+returns c = rw (c.changed.ensures, c.first_of-before.ensures, c.rect_fault.ensures, c.region_fault.ensures, c.expand_to_include_rect-new.ensures)

@@ -4,4 +4,4 @@ use Rattle.region.proofs.Region.expand_to_include_x.Goals as goal
 
 pub returns : goal.returns
 unfolding checked_expand_to_include_x least
-returns c = rw (c.changed_region.ensures, c.first_of-before.ensures, c.length_fault.ensures, c.region_fault.ensures, c.expand_to_include_x-new.ensures)
+returns c = rw (c.changed.ensures, c.first_of-before.ensures, c.length_fault.ensures, c.region_fault.ensures, c.expand_to_include_x-new.ensures)

@@ -1,8 +1,6 @@
 use Rattle.region.specs.Operations.{changed_region}
-use Rattle.emath.proofs.Refusals.{or-number}
-use Rattle.region.proofs.Answers.{region-outcome}
 use Rattle.region.proofs.faults.changed_region.Goals as goal
 
 pub returns : goal.returns
 unfolding changed_region
-returns c given = rw (c.answer.ensures, region-outcome, c.or.ensures, or-number, c.outside_domain.ensures, c.region_fault.ensures)
+returns c = rw (c.region_answer.ensures, c.or_else.ensures, c.outside_domain-after.ensures, c.fault_number.ensures, c.region_fault.ensures)

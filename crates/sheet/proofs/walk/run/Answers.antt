@@ -43,7 +43,7 @@ returns-in-Err c =
     let g = rw c.in-Err.is at c.run_record.ensures in
     let more : 0 < a.first + a.most - l.n = omega (arith, c.loop-n-test.true) in
     let t = turn a.unit a.text.now a.spacing _ l.n l.at l.w p l.out l.plate _ l.invariant.4 more c.if-text-at.false m (ap (λ (x : Record). record_result p a.spacing x) c.cached_record-record.ensures) in
-    (record { number = m.number; at = l.n; placer = m.placer; plate = l.plate }, (g, refl), as-walked _ _ _ _ _ _ _ _ _ c.requires.only_steps.0 (t.stops (number-none _ _ g)))
+    (record { number = m.number; at = l.n; placer = m.placer; plate = l.plate }, (g.0, refl, (l.s, g.1)), as-walked _ _ _ _ _ _ _ _ _ c.requires.only_steps.0 (t.stops (number-none _ _ g.0)))
 
 pub plate_with-plate-requires : goal.plate_with-plate-requires
 plate_with-plate-requires c = rect-numbers c.loop-n.invariant.6

@@ -4,7 +4,7 @@ use Rattle.text.proofs.Writing.{minus-room, digits-alone, minus-put}
 use Rattle.text.proofs.digits.put.Goals as goal
 
 pub overflow_sub-out : goal.overflow_sub-out
-overflow_sub-out c = omega (arith, minus-room c.args.neg c.put_digits-first.result c.if-neg-first.true)
+overflow_sub-out c = omega (arith, minus-room c.args.neg 0 c.put_digits-first.result c.if-neg-first.true)
 
 pub returns-then-neg-first : goal.returns-then-neg-first
 unfolding spaces

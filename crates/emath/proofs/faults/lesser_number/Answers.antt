@@ -1,6 +1,6 @@
 use Rattle.std.proofs.Common.{le-ltb, lt-ltb, eq-eqb, ne_eqb}
 use Rattle.emath.specs.Refusals.{lesser}
-use Rattle.probe_emath.proofs.numbers.emath_faults_lesser_number.Goals as goal
+use Rattle.emath.proofs.faults.lesser_number.Goals as goal
 
 pub returns-then-a-eq0 : goal.returns-then-a-eq0
 unfolding lesser
